@@ -1,0 +1,8 @@
+mod Lexing
+mod Unique
+mod Derives
+mod Bytes
+mod Building
+mod Combine
+mod Whole
+mod Outcomes

@@ -1,0 +1,7 @@
+pub mod reader;
+mod readers;
+mod scratch;
+pub mod sign;
+pub mod theorems;
+
+pub use reader::read;
