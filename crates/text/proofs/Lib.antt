@@ -5,4 +5,4 @@ mod Bytes
 mod Building
 mod Combine
 mod Whole
-mod Outcomes
+pub mod Outcomes

@@ -1,7 +1,7 @@
 -- The text and the rows lent decide what read answers.
 use mathlib.Core.Path.{_≡_, refl, sym, _∙_, ap, ap₂}
 use mathlib.Core.List.{List, _++_}
-use Prim.Native.Nat.{ℕ}
+use Prim.Native.Nat.{ℕ, _≤_}
 use native.Mathlib.Omega.{arith}
 use lib.ListN.{length, drop}
 use Rattle.std.specs.declared.result.Result.{Result}
@@ -18,13 +18,20 @@ use Rattle.text.proofs.Derives.{one-tree}
 same-size : {b : List ℕ} {t u : Tree} → Text b t → Text b u → size t ≡ size u
 same-size d e = ap size (one-tree d e)
 
+-- a text that can be read, with room for 64 rows, is denied by no number
+pub read-not-denied : {text : List ℕ} {k : ℕ} → length text ≤ 200 → (t : Tree) → Text text t → size t ≤ 64 → Denied text 64 k → ⊥
+read-not-denied s t d f (too-long h) = omega arith
+read-not-denied s t d f (not-derived r h) = h t d
+read-not-denied s t d f (too-many-rows r u e h) = omega (arith, same-size d e)
+read-not-denied s t d f (no-room r u e g h) = omega (arith, same-size d e)
+
 not-both : {text : List ℕ} {old new : List Row} {n k : ℕ} → Wrote text old n new → Denied text (length old) k → ⊥
 not-both w (too-long h) = omega (arith, w .short)
 not-both w (not-derived s h) = h (w .tree) (w .derived)
 not-both w (too-many-rows s t d h) = omega (arith, w .few, w .counted, same-size (w .derived) d)
 not-both w (no-room s t d f h) = omega (arith, w .room, w .counted, same-size (w .derived) d)
 
-one-number : {text : List ℕ} {room m n : ℕ} → Denied text room m → Denied text room n → m ≡ n
+pub one-number : {text : List ℕ} {room m n : ℕ} → Denied text room m → Denied text room n → m ≡ n
 one-number (too-long h) (too-long k) = refl
 one-number (too-long h) (not-derived s k) = absurd (omega arith)
 one-number (too-long h) (too-many-rows s t d k) = absurd (omega arith)

@@ -1,0 +1,5 @@
+mod Shapes
+mod Splits
+mod Prints
+mod Turns
+mod Decided
