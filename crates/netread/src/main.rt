@@ -1,12 +1,13 @@
+use session::LIMIT;
 use session::serve;
 use std::io;
 use std::io::Read;
 use std::io::Write;
 
-// Standard input, its first 65,536 bytes; more is not read.
+// The first bytes of standard input, as many as are served; more is not read.
 fn read_input(rt: &LibcRuntime) -> io::Result<Vec<u8>> {
     let mut input = Vec::new(rt.alloc());
-    rt.stdin().take(65_536).read_to_end(&mut input)?;
+    rt.stdin().take(LIMIT as u64).read_to_end(&mut input)?;
     Ok(input)
 }
 

@@ -3,9 +3,13 @@ ghost use Rattle.rules.specs.Trees.{row};
 
 // The kinds of rows. An empty and a leaf have no parts, a choice and a sequence two, a star one.
 pub const EMPTY: u8 = 0;
+
 pub const LEAF: u8 = 1;
+
 pub const CHOICE: u8 = 2;
+
 pub const SEQUENCE: u8 = 3;
+
 pub const STAR: u8 = 4;
 
 // One node of a rule: its kind and, at a leaf, the two numbers that say which symbols it holds.

@@ -40,11 +40,11 @@ pub line-ended : (l : List ℕ) (n : ℕ) → n < length l → Clear l n → get
 line-ended l n less h e =
     let m : n - 0 ≡ n = omega arith in
     let s : n + 1 ≡ suc n = omega arith in
-    let r : take (length l - (n + 1)) (drop (n + 1) l) ≡ drop (n + 1) l = take-all _ _ (simp length-drop (omega arith)) in
+    let r : take (length l - (n + 1)) (drop (n + 1) l) ≡ drop (n + 1) l = take-all (length l - (n + 1)) (drop (n + 1) l) (simp length-drop (omega arith)) in
     rw (r, m) (rw s (ended l n less h e), simp length-drop (omega arith))
 
 pub line-last : (l : List ℕ) (n : ℕ) → 0 < length l → n ≡ length l → Clear l n → (lines l ≡ take (n - 0) l ∷ lines (take (length l - n) (drop n l))) × (length (take (length l - n) (drop n l)) < length l)
 line-last l n some e h =
     let r : take (length l - n) (drop n l) ≡ [] = ap (λ (x : List ℕ). take (length l - n) x) (drop-of-length-le l (omega arith)) ∙ take-nil (length l - n) in
-    let t : take (n - 0) l ≡ l = take-all _ _ (omega arith) in
+    let t : take (n - 0) l ≡ l = take-all (n - 0) l (omega arith) in
     rw (r, t) (last l some (subst (λ (k : ℕ). Clear l k) e h), omega arith)

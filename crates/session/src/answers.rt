@@ -8,16 +8,19 @@ ghost use Rattle.std.specs.Vec.{made};
 ghost use Rattle.rules.specs.Denials.{number};
 ghost use Rattle.session.specs.Lines.{lines};
 ghost use Rattle.session.specs.Served.{Appends, asked, denied, Rule-prints, Answers, Session, start};
-use crate::line::{Line, State, kind_of};
+use crate::line::Line;
+use crate::line::State;
+use crate::line::kind_of;
 use crate::lines::next_line;
+use rules::Denial;
+use rules::Row;
 use rules::row::EMPTY;
-use rules::{Denial, Row};
 use std::alloc::AllocError;
 use std::alloc::Global;
 use text::read;
 
 // As many bytes of input are served; the rest is passed over.
-const LIMIT: usize = 65_536;
+pub const LIMIT: usize = 65_536;
 
 // `! ` and the number, on a line.
 fn denial_line(heap: Global, denial: Denial) -> Result<String, AllocError>

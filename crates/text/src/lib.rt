@@ -5,3 +5,6 @@ pub mod sign;
 pub mod theorems;
 
 pub use reader::read;
+
+#[cfg(test)]
+mod tests;

@@ -1,7 +1,9 @@
 ghost use Rattle.text.specs.Reading.{Outcome};
-use crate::readers::{Reached, read_text};
+use crate::readers::Reached;
+use crate::readers::read_text;
+use rules::Denial;
+use rules::Row;
 use rules::row::EMPTY;
-use rules::{Denial, Row};
 
 // Reads the rule that the text writes into the first of the rows, and says how many rows it has.
 pub fn read(text: &[u8], rows: &mut [Row]) -> Result<usize, Denial>
@@ -12,7 +14,8 @@ pub fn read(text: &[u8], rows: &mut [Row]) -> Result<usize, Denial>
     }
     let mut scratch = [Row::inner(EMPTY); 64];
     let end = read_text(text, Reached { at: 0, count: 0 }, &mut scratch)?;
-    if end.at < text.len() {
+    let left = text.len() - end.at;
+    if left > 0 {
         return Err(Denial::NotDerived);
     }
     let count = end.count;

@@ -8,10 +8,19 @@ ghost use Rattle.rules.specs.Trees.{Tree, row, size};
 ghost use Rattle.text.specs.Signs.{Stops};
 ghost use Rattle.text.specs.Readers.{ReadText, ReadBranch, ReadPiece, ReadAtom};
 ghost use Rattle.text.specs.Written.{Reaches, Refuses, Starred};
-use crate::scratch::{insert, put};
-use crate::sign::{Sign, sign_at, stands_at, stops_at};
-use rules::row::{CHOICE, EMPTY, LEAF, SEQUENCE, STAR};
-use rules::{Denial, Row};
+use crate::scratch::insert;
+use crate::scratch::put;
+use crate::sign::Sign;
+use crate::sign::sign_at;
+use crate::sign::stands_at;
+use crate::sign::stops_at;
+use rules::Denial;
+use rules::Row;
+use rules::row::CHOICE;
+use rules::row::EMPTY;
+use rules::row::LEAF;
+use rules::row::SEQUENCE;
+use rules::row::STAR;
 
 // How far a reader has come: the bytes read, and the rows counted.
 #[derive(Clone, Copy)]
@@ -33,7 +42,10 @@ pub(crate) fn read_text(
     let first = read_branch(text, from, scratch)?;
     if stands_at(text, first.at, b'|') {
         insert(scratch, from.count, first.count, Row::inner(CHOICE));
-        let behind = Reached { at: first.at + 1, count: first.count + 1 };
+        let behind = Reached {
+            at: first.at + 1,
+            count: first.count + 1,
+        };
         read_text(text, behind, scratch)
     } else {
         Ok(first)
@@ -41,34 +53,32 @@ pub(crate) fn read_text(
 }
 
 // Nothing, a piece, or a piece and a branch that is not nothing.
-fn read_branch(
-    text: &[u8],
-    from: Reached,
-    scratch: &mut [Row; 64],
-) -> Result<Reached, Denial>
+fn read_branch(text: &[u8], from: Reached, scratch: &mut [Row; 64]) -> Result<Reached, Denial>
     requires { ⌜ from .at ≤ length (now text) ⌝ ∗ ⌜ from .count + 2 * length (now text) < 2 ^ 32 + 2 * from .at ⌝ }
     ensures near { λ r. ⌜ made r (λ p. (from .at ≤ p .at) × (p .at ≤ length (now (text .entry))) × (p .count + 2 * from .at ≤ from .count + 2 * p .at + 1) × ((Stops (drop (from .at) (now (text .entry))) → ⊥) → p .count + 2 * from .at + 1 ≤ from .count + 2 * p .at)) ⌝ }
     ensures read { λ r. ⌜ Cases r (λ p. Reaches ReadBranch (now (text .entry)) (from .at) (from .count) (p .at) (p .count) (now (scratch .entry)) (now (scratch .exit))) (λ d. (number d ≡ 13) × Refuses ReadBranch (drop (from .at) (now (text .entry)))) ⌝ }
 {
     if stops_at(text, from.at) {
         put(scratch, from.count, Row::inner(EMPTY));
-        return Ok(Reached { at: from.at, count: from.count + 1 });
+        return Ok(Reached {
+            at: from.at,
+            count: from.count + 1,
+        });
     }
     let first = read_piece(text, from, scratch)?;
     if stops_at(text, first.at) {
         return Ok(first);
     }
     insert(scratch, from.count, first.count, Row::inner(SEQUENCE));
-    let behind = Reached { at: first.at, count: first.count + 1 };
+    let behind = Reached {
+        at: first.at,
+        count: first.count + 1,
+    };
     read_branch(text, behind, scratch)
 }
 
 // An atom and its stars.
-fn read_piece(
-    text: &[u8],
-    from: Reached,
-    scratch: &mut [Row; 64],
-) -> Result<Reached, Denial>
+fn read_piece(text: &[u8], from: Reached, scratch: &mut [Row; 64]) -> Result<Reached, Denial>
     requires { ⌜ from .at ≤ length (now text) ⌝ ∗ ⌜ from .count + 2 * length (now text) < 2 ^ 32 + 2 * from .at ⌝ }
     ensures near { λ r. ⌜ made r (λ p. (from .at < p .at) × (p .at ≤ length (now (text .entry))) × (p .count + 2 * from .at + 1 ≤ from .count + 2 * p .at)) ⌝ }
     ensures read { λ r. ⌜ Cases r (λ p. Reaches ReadPiece (now (text .entry)) (from .at) (from .count) (p .at) (p .count) (now (scratch .entry)) (now (scratch .exit))) (λ d. (number d ≡ 13) × Refuses ReadPiece (drop (from .at) (now (text .entry)))) ⌝ }
@@ -85,7 +95,10 @@ fn read_stars(text: &[u8], start: usize, from: Reached, scratch: &mut [Row; 64])
 {
     if stands_at(text, from.at, b'*') {
         insert(scratch, start, from.count, Row::inner(STAR));
-        let behind = Reached { at: from.at + 1, count: from.count + 1 };
+        let behind = Reached {
+            at: from.at + 1,
+            count: from.count + 1,
+        };
         read_stars(text, start, behind, scratch)
     } else {
         from
@@ -98,16 +111,19 @@ fn put_leaf(scratch: &mut [Row; 64], count: usize, at: usize, low: u8, high: u8)
     ensures near { λ p. ⌜ p .at ≡ at ⌝ ∗ ⌜ p .count ≡ count + 1 ⌝ }
     ensures wrote { λ _. ⌜ now (scratch .exit) ≡ set (now (scratch .entry)) count (row 1 low high) ⌝ }
 {
-    put(scratch, count, Row::new(LEAF, u32::from(low), u32::from(high)));
-    Reached { at, count: count + 1 }
+    put(
+        scratch,
+        count,
+        Row::new(LEAF, u32::from(low), u32::from(high)),
+    );
+    Reached {
+        at,
+        count: count + 1,
+    }
 }
 
 // `(` text `)`, or one leaf.
-fn read_atom(
-    text: &[u8],
-    from: Reached,
-    scratch: &mut [Row; 64],
-) -> Result<Reached, Denial>
+fn read_atom(text: &[u8], from: Reached, scratch: &mut [Row; 64]) -> Result<Reached, Denial>
     requires { ⌜ from .at ≤ length (now text) ⌝ ∗ ⌜ from .count + 2 * length (now text) < 2 ^ 32 + 2 * from .at ⌝ }
     ensures near { λ r. ⌜ made r (λ p. (from .at < p .at) × (p .at ≤ length (now (text .entry))) × (p .count + 2 * from .at + 1 ≤ from .count + 2 * p .at)) ⌝ }
     ensures read { λ r. ⌜ Cases r (λ p. Reaches ReadAtom (now (text .entry)) (from .at) (from .count) (p .at) (p .count) (now (scratch .entry)) (now (scratch .exit))) (λ d. (number d ≡ 13) × Refuses ReadAtom (drop (from .at) (now (text .entry)))) ⌝ }
@@ -115,10 +131,16 @@ fn read_atom(
     let (sign, after) = sign_at(text, from.at)?;
     match sign {
         Sign::Open => {
-            let inside = Reached { at: after, count: from.count };
+            let inside = Reached {
+                at: after,
+                count: from.count,
+            };
             let inner = read_text(text, inside, scratch)?;
             if stands_at(text, inner.at, b')') {
-                Ok(Reached { at: inner.at + 1, count: inner.count })
+                Ok(Reached {
+                    at: inner.at + 1,
+                    count: inner.count,
+                })
             } else {
                 Err(Denial::NotDerived)
             }

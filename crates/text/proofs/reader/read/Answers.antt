@@ -18,8 +18,8 @@ returns-in-Break-end c =
     let h = c .in-Break-end .ensures tt .read in
     rw (p .1, p .2, h .0) (refl, not-derived (omega arith) (none-read (h .1)))
 
-pub returns-then-end-text : need.returns-then-end-text
-returns-then-end-text c = (refl, not-derived (omega arith) (cut-short (c .in-Continue-end .ensures tt .read) (omega arith)))
+pub returns-then-left-gt0 : need.returns-then-left-gt0
+returns-then-left-gt0 c = (refl, not-derived (omega arith) (cut-short (c .in-Continue-end .ensures tt .read) (omega arith)))
 
 pub returns-then-count-gt64 : need.returns-then-count-gt64
 returns-then-count-gt64 c =
