@@ -1,2 +1,6 @@
 pub mod Numbers
 pub mod RowFacts
+pub mod Parts
+pub mod Decide
+pub mod ReadingFacts
+pub mod OneTree

@@ -34,3 +34,19 @@ size (star p) = suc (size p)
 -- these rows are those of this tree
 abbrev pub Of : List Row → Tree → Type 0
 Of rs t = rs ≡ rows t
+
+-- how many leaves a tree has, those under stars too
+abbrev pub leaves : Tree → ℕ
+leaves empty = 0
+leaves (leaf lo hi) = 1
+leaves (choice p q) = leaves p + leaves q
+leaves (sequence p q) = leaves p + leaves q
+leaves (star p) = leaves p
+
+-- s stands at node n of t, with no star above it
+pub data Bound : Tree → ℕ → Tree → Type 0 where
+  here : {t : Tree} → Bound t 0 t
+  choice-first : {p q s : Tree} {n : ℕ} → Bound p n s → Bound (choice p q) (suc n) s
+  choice-second : {p q s : Tree} {n : ℕ} → Bound q n s → Bound (choice p q) (suc (size p + n)) s
+  sequence-first : {p q s : Tree} {n : ℕ} → Bound p n s → Bound (sequence p q) (suc n) s
+  sequence-second : {p q s : Tree} {n : ℕ} → Bound q n s → Bound (sequence p q) (suc (size p + n)) s

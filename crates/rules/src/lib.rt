@@ -1,5 +1,10 @@
+pub mod alphabet;
 pub mod denial;
 pub mod row;
+pub mod rule;
+pub mod theorems;
 
+pub use alphabet::Alphabet;
 pub use denial::Denial;
 pub use row::Row;
+pub use rule::Rule;
