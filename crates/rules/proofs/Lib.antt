@@ -4,3 +4,5 @@ pub mod Parts
 pub mod Decide
 pub mod ReadingFacts
 pub mod OneTree
+pub mod CheckFacts
+pub mod Shapes

@@ -49,13 +49,12 @@ first (t ∷ ts) = t
 pub one-tree : (t u : Tree) → rows t ≡ rows u → t ≡ u
 one-tree t u e = ap first (sym (trees-rows t []) ∙ ap (λ l. trees (l ++ [])) e ∙ trees-rows u [])
 
-
 row-set : IsSet Row
-row-set = λ x y p q. λ i j. record
-  { kind = ℕ-set (x .kind) (y .kind) (ap (λ (r : Row). r .kind) p) (ap (λ (r : Row). r .kind) q) i j
-  ; lo = ℕ-set (x .lo) (y .lo) (ap (λ (r : Row). r .lo) p) (ap (λ (r : Row). r .lo) q) i j
-  ; hi = ℕ-set (x .hi) (y .hi) (ap (λ (r : Row). r .hi) p) (ap (λ (r : Row). r .hi) q) i j
-  }
+row-set = λ x y p q. λ i j. record {
+  kind = ℕ-set (x .kind) (y .kind) (ap (λ (r : Row). r .kind) p) (ap (λ (r : Row). r .kind) q) i j;
+  lo = ℕ-set (x .lo) (y .lo) (ap (λ (r : Row). r .lo) p) (ap (λ (r : Row). r .lo) q) i j;
+  hi = ℕ-set (x .hi) (y .hi) (ap (λ (r : Row). r .hi) p) (ap (λ (r : Row). r .hi) q) i j;
+}
 
 -- that rows are those of a tree has one proof
 of-prop : (rs : List Row) → IsProp ((t : Tree) × Of rs t)

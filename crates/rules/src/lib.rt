@@ -8,3 +8,6 @@ pub use alphabet::Alphabet;
 pub use denial::Denial;
 pub use row::Row;
 pub use rule::Rule;
+
+#[cfg(test)]
+mod tests;

@@ -1,4 +1,4 @@
-ghost use Rattle.rules.specs.Theorems.{Few-leaves, Language-decided, Readings-exactly};
+ghost use Rattle.rules.specs.Theorems.{Checked-exactly, Few-leaves, Language-decided, Readings-exactly};
 
 // Whether a name is in a rule's language can be decided.
 pub fn language_is_decided() -> u8
@@ -17,6 +17,13 @@ pub fn readings_are_of_the_language() -> u8
 // A rule has at most 32 leaves.
 pub fn rules_have_few_leaves() -> u8
     ensures { λ _. ⌜ Few-leaves ⌝ }
+{
+    0
+}
+
+// Rows pass the checks exactly when they are those of a tree whose leaves are all admitted, and of no other tree.
+pub fn checks_are_exact() -> u8
+    ensures { λ _. ⌜ Checked-exactly ⌝ }
 {
     0
 }
