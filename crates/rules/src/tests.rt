@@ -1,4 +1,11 @@
-use crate::alphabet::{Alphabet, Bytes, BytesAlphabet, Folding, FoldingAlphabet, Segment, Segments, SegmentsAlphabet};
+use crate::alphabet::Alphabet;
+use crate::alphabet::Bytes;
+use crate::alphabet::BytesAlphabet;
+use crate::alphabet::Folding;
+use crate::alphabet::FoldingAlphabet;
+use crate::alphabet::Segment;
+use crate::alphabet::Segments;
+use crate::alphabet::SegmentsAlphabet;
 use crate::row::Row;
 use crate::rule::Rule;
 use std::test::*;
