@@ -1,0 +1,12 @@
+pub mod Masks
+pub mod Local
+pub mod Meanings
+pub mod Runs
+pub mod Steps
+pub mod Loops
+pub mod Running
+pub mod Linking
+pub mod Nodes
+pub mod Visiting
+pub mod Gathering
+pub mod Computing

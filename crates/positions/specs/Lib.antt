@@ -1,0 +1,5 @@
+pub mod Positions
+pub mod Steps
+pub mod SetsOf
+pub mod Visits
+pub mod Theorems

@@ -1,0 +1,8 @@
+pub mod leaf_set;
+pub mod sets;
+pub mod theorems;
+
+pub use sets::Positions;
+
+#[cfg(test)]
+mod tests;
