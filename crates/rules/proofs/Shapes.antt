@@ -20,7 +20,7 @@ use Rattle.rules.proofs.CheckFacts.{rows-met}
 not-none : (k : ℕ) → Some k ≡ None → ⊥
 not-none k e = let z : _≡_ {A = ℕ} 0 1 = cc in omega arith
 
-both-none : (o m : Option ℕ) → first-met o m ≡ None → (o ≡ None) × (m ≡ None)
+pub both-none : (o m : Option ℕ) → first-met o m ≡ None → (o ≡ None) × (m ≡ None)
 both-none None m e = (refl, e)
 both-none (Some k) m e = absurd (not-none k e)
 

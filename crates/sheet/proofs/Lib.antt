@@ -1,0 +1,11 @@
+mod ChangeFacts
+mod HeldFacts
+mod QuestionFacts
+mod SpansFacts
+mod Sights
+mod AllRuled
+mod Once
+mod Lawful
+mod Tellings
+mod Asking
+mod Turns
