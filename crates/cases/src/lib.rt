@@ -1,3 +1,5 @@
+#![tactic(auto)]
+
 pub mod lister;
 pub mod membership;
 pub mod pick;

@@ -1,3 +1,5 @@
+#![tactic(auto)]
+
 mod adding;
 pub mod answers;
 mod line;

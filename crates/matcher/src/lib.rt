@@ -1,3 +1,5 @@
+#![tactic(auto)]
+
 mod bench;
 pub mod matching;
 mod membership;

@@ -1,3 +1,5 @@
+#![tactic(auto)]
+
 use session::{LIMIT, serve};
 use std::io;
 use std::io::{Read, Write};

@@ -1,3 +1,5 @@
+#![tactic(auto)]
+
 ghost use Rattle.netread_c.specs.Door.{HandedOut, Serves};
 
 use constraints::serve;

@@ -1,3 +1,5 @@
+#![tactic(auto)]
+
 pub mod first_longest;
 pub mod keyed;
 pub mod named;

@@ -1,3 +1,5 @@
+#![tactic(auto)]
+
 pub mod leaf_set;
 pub mod sets;
 pub mod theorems;

@@ -1,11 +1,11 @@
 -- Rows are those of one tree at most, so that the tree of a rule can be taken out of its invariant.
-use Rattle.std.proofs.Common.{◌≡◌, ℕ, zero, suc, ◌≤◌, List, [], ◌∷◌, ◌++◌, length, take, sym, refl, ap, ◌∙◌, subst, append_assoc, append-nil, arith, length-take}
+use Rattle.std.proofs.Common.{◌≡◌, ℕ, zero, suc, ◌≤◌, List, [], ◌∷◌, ◌++◌, length, take, sym, refl, ap, ◌∙◌, append_assoc, arith, length-take}
 use mathlib.Core.List.{is_set}
 use mathlib.Core.HLevel.{is_prop→PathP}
 use mathlib.Core.Logic.{∥∥₁_elim}
 use native.Mathlib.Nat.{ℕ_set}
 use Rattle.rules.specs.declared.row.Row.{Row}
-use Rattle.rules.specs.Trees.{Tree, empty, leaf, choice, sequence, star, row, rows, size, Of}
+use Rattle.rules.specs.Trees.{Tree, empty, leaf, choice, sequence, star, rows, size, Of}
 use Rattle.rules.specs.RuleRows.{Ruled}
 use Rattle.rules.proofs.RowFacts.{length_rows}
 

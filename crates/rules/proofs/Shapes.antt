@@ -1,9 +1,9 @@
 -- Rows meet no check exactly when they are those of a tree whose leaves are all admitted.
-use Rattle.std.proofs.Common.{◌≡◌, ℕ, zero, suc, ◌+◌, ◌-◌, ◌<◌, ◌≤◌, Bool, true, false, cond, ◌&&◌, ◌||◌, eqb, ltb, ◌⊎◌, ◌↔◌, List, [], ◌∷◌, ◌++◌, length, Some, None, Option, sym, refl, ap, ◌∙◌, subst, inl, inr, append_assoc, append-nil, arith}
-use Rattle.std.proofs.lemmas.Bool.{and_parts, cases_Bool, cond-true, cond-false, eqb-true, eqb-false, ltb-false, ne_eqb, le-ltb}
+use Rattle.std.proofs.Common.{◌≡◌, ℕ, zero, suc, ◌+◌, ◌-◌, ◌≤◌, Bool, true, false, cond, ◌&&◌, eqb, ltb, List, [], ◌∷◌, ◌++◌, length, Some, None, Option, sym, refl, ap, ◌∙◌, subst, append_assoc, append-nil, arith}
+use Rattle.std.proofs.lemmas.Bool.{and_parts, cond-true, cond-false, eqb-true, eqb-false, ltb-false, ne_eqb, le-ltb}
 use Rattle.rules.specs.declared.row.Row.{Row}
 use Rattle.rules.specs.Trees.{Tree, empty, leaf, choice, sequence, star, row, rows, Of}
-use Rattle.rules.specs.Checks.{parts, open_after, row_fits, row_met, first_met, met, checks, AllAdmitted}
+use Rattle.rules.specs.Checks.{open_after, row_fits, row_met, first_met, met, AllAdmitted}
 use Rattle.rules.specs.Theorems.{CheckedExactly}
 use Rattle.rules.proofs.OneTree.{one_tree}
 use Rattle.rules.proofs.CheckFacts.{rows_met}

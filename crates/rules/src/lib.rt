@@ -1,3 +1,5 @@
+#![tactic(auto)]
+
 pub mod alphabet;
 pub mod denial;
 pub mod row;

@@ -1,3 +1,5 @@
+#![tactic(auto)]
+
 pub mod answers;
 mod line;
 mod lines;

@@ -1,3 +1,5 @@
+#![tactic(auto)]
+
 pub mod held;
 pub mod history;
 pub mod sheet;

@@ -2,10 +2,10 @@ use Rattle.std.proofs.Common.{◌≡◌, ◌-◌, ◌<◌, length, take, drop, r
 use Rattle.text.specs.Signs.{lex_open, lex_close, lex_bar, lex_star, lex_dot, lex_plain}
 use Rattle.text.proofs.Bytes.{rest_is, byte_signed, front_is, two_is, two_lex, five_lex, unsigned_empty, unsigned_end, unsigned_escape, unsigned_class}
 use Rattle.text.proofs.sign.next_sign.Goals as goal
-use Rattle.text.proofs.sign.next_sign.Goals.{in-default-text-via-then-text-lt5, in-default-text-via-in-91-text+else-low-high, in-default-text-via-else-text-lt5+in-91·+in-45·+in-default·, in-default-text-via-else-text-lt5+in-91·+in-default·, in-default-text-via-else-text-lt5+in-default·}
+use Rattle.text.proofs.sign.next_sign.Goals.{in-default-text-via-then-text-lt5, in-default-text-via-in-91-text+else-low-high, in-default-text-via-else-text-lt5+in-91·+in-45·+in_default·, in-default-text-via-else-text-lt5+in-91·+in_default·, in-default-text-via-else-text-lt5+in-default·}
 
-pub returns-in-default : goal.returns-in-default
-returns-in-default c = (refl, unsigned_empty _ (omega (arith, ltb-true, ltb-false)))
+pub returns-in_default : goal.returns-in_default
+returns-in_default c = (refl, unsigned_empty _ (omega (arith, ltb-true, ltb-false)))
 
 pub returns-in-40 : goal.returns-in-40
 returns-in-40 c = record { lexed = byte_signed 40 _ (omega (arith, ltb-true, ltb-false)) c.in-40.is lex_open; borrows = tt }
@@ -34,8 +34,8 @@ returns-in-91-text c =
       borrows = (l, front_is 5 _);
     }
 
-pub returns-in-default-text : goal.returns-in-default-text
-returns-in-default-text c = (refl, unsigned_class _ c.in-91.is (λ l d f g. elim c.in-default-text.branch [ in-default-text-via-then-text-lt5 w ↦ omega (arith, ltb-true, ltb-false) | in-default-text-via-in-91-text+else-low-high w ↦ omega arith | in-default-text-via-else-text-lt5+in-91·+in-45·+in-default· w ↦ omega arith | in-default-text-via-else-text-lt5+in-91·+in-default· w ↦ omega arith | in-default-text-via-else-text-lt5+in-default· w ↦ omega arith ]))
+pub returns-in_default-text : goal.returns-in_default-text
+returns-in_default-text c = (refl, unsigned_class _ c.in-91.is (λ l d f g. elim c.in_default-text.branch [ in-default-text-via-then-text-lt5 w ↦ omega (arith, ltb-true, ltb-false) | in-default-text-via-in-91-text+else-low-high w ↦ omega arith | in-default-text-via-else-text-lt5+in-91·+in-45·+in_default· w ↦ omega arith | in-default-text-via-else-text-lt5+in-91·+in_default· w ↦ omega arith | in-default-text-via-else-text-lt5+in-default· w ↦ omega arith ]))
 
 pub returns-in-93 : goal.returns-in-93
 returns-in-93 c = (refl, unsigned_end _ c.in-93.is)
@@ -52,8 +52,8 @@ returns-in-len1-up-rest c =
     let l : length (take 2 c.args.text.now) ≡ 2 = simp length-take (omega arith) in
     record { lexed = two_lex (take 2 c.args.text.now) _ _ l (two_is _ k) (omega (arith, get_or-take 2 c.args.text.now 0 0 (omega arith), c.in-92.is)); borrows = (l, two_is _ k) }
 
-pub returns-in-default-2 : goal.returns-in-default-2
-returns-in-default-2 c = record {
+pub returns-in_default-2 : goal.returns-in_default-2
+returns-in_default-2 c = record {
   lexed = byte_signed _ _ (omega (arith, ltb-true, ltb-false)) refl (lex_plain (record { not_open = omega arith; not_close = omega arith; not_bar = omega arith; not_star = omega arith; not_class = omega arith; not_class_end = omega arith; not_escape = omega arith; not_dot = omega arith }));
   borrows = tt;
 }

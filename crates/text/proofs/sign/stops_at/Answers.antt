@@ -10,14 +10,14 @@ returns-then-at-text c = record {
   no = λ e. absurd (clash (sym e));
 }
 
-pub returns-then-stands-at : goal.returns-then-stands-at
-returns-then-stands-at c = record {
-  yes = λ e. stops_at (c.stands-at.ensures.yes c.if-stands-at.true).1 stops_close;
+pub returns-then-stands_at : goal.returns-then-stands_at
+returns-then-stands_at c = record {
+  yes = λ e. stops_at (c.stands_at.ensures.yes c.if-stands_at.true).1 stops_close;
   no = λ e. absurd (clash (sym e));
 }
 
 pub returns : goal.returns
 returns c = record {
-  yes = λ e. stops_at (c.stands-at-2.ensures.yes e).1 stops_bar;
-  no = λ e s. stops_from s (not_past c.args.text.now c.args.at (omega arith)) (c.stands-at.ensures.no c.if-stands-at.false) (c.stands-at-2.ensures.no e);
+  yes = λ e. stops_at (c.stands_at-2.ensures.yes e).1 stops_bar;
+  no = λ e s. stops_from s (not_past c.args.text.now c.args.at (omega arith)) (c.stands_at.ensures.no c.if-stands_at.false) (c.stands_at-2.ensures.no e);
 }

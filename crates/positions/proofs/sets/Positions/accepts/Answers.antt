@@ -4,8 +4,8 @@ use Rattle.std.proofs.lemmas.Bool.{ltb-true, ltb-false}
 use Rattle.positions.proofs.Running.{run_none, run_turn, run_end, run_stuck}
 use Rattle.positions.proofs.sets.Positions.accepts.Goals as goal
 
-pub returns-in-default : goal.returns-in-default
-returns-in-default g c t h =
+pub returns-in_default : goal.returns-in_default
+returns-in_default g c t h =
     let none : length c.args.name.now ≡ 0 = omega (arith, ltb-true, ltb-false) in
     run_none (g.A.Alphabet.held c.args.alphabet.now) t c.args.self.now h c.args.name.now none
 
