@@ -75,7 +75,7 @@ fn list_star(
 }
 
 // Every reading of the symbols from i up to j by the tree of these rows, added to the list.
-#[cycle(list_list_choice_list_sequence)]
+#[cycle(listing)]
 fn list(
     rows: &[Row],
     name: &[u8],
@@ -103,7 +103,7 @@ fn list(
     list_sequence(&rows[1..1 + size], &rows[1 + size..], name, i, j, out)
 }
 
-#[cycle(list_list_choice_list_sequence)]
+#[cycle(listing)]
 fn list_choice(
     first: &[Row],
     second: &[Row],
@@ -128,7 +128,7 @@ fn list_choice(
     add_each(out, (i, j), &none, &rights)
 }
 
-#[cycle(list_list_choice_list_sequence)]
+#[cycle(listing)]
 fn list_sequence(
     first: &[Row],
     second: &[Row],

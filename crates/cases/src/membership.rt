@@ -38,7 +38,7 @@ pub fn leaf_has(row: Row, word: &[u8]) -> bool {
 }
 
 // Whether the tree of these rows has the word, every split tried.
-#[cycle(member_member_pair_member_rounds)]
+#[cycle(membership)]
 pub fn member(rows: &[Row], word: &[u8]) -> bool {
     if rows.len() == 0 {
         return false;
@@ -62,7 +62,7 @@ pub fn member(rows: &[Row], word: &[u8]) -> bool {
     member_pair(first, second, word)
 }
 
-#[cycle(member_member_pair_member_rounds)]
+#[cycle(membership)]
 fn member_pair(first: &[Row], second: &[Row], word: &[u8]) -> bool {
     for k in 0..word.len() + 1 {
         if member(first, &word[..k]) && member(second, &word[k..]) {
@@ -73,7 +73,7 @@ fn member_pair(first: &[Row], second: &[Row], word: &[u8]) -> bool {
 }
 
 // A first round of at least one symbol, and then the star again.
-#[cycle(member_member_pair_member_rounds)]
+#[cycle(membership)]
 fn member_rounds(rows: &[Row], word: &[u8]) -> bool {
     if rows.len() == 0 {
         return false;

@@ -50,7 +50,7 @@ pub(crate) fn reach(rows: &[Row], first: usize, second: usize, i: usize, j: usiz
 }
 
 // Whether the node has the stretch from i to j.
-#[cycle(has_has_anew_has_both_has_either_has_pair_has_rounds)]
+#[cycle(membership)]
 pub(crate) fn has<A: Alphabet>(
     alphabet: &A,
     rows: &[Row],
@@ -79,7 +79,7 @@ pub(crate) fn has<A: Alphabet>(
 }
 
 // The same, where the bench does not know it.
-#[cycle(has_has_anew_has_both_has_either_has_pair_has_rounds)]
+#[cycle(membership)]
 fn has_anew<A: Alphabet>(
     alphabet: &A,
     rows: &[Row],
@@ -111,7 +111,7 @@ fn has_anew<A: Alphabet>(
 }
 
 // A choice.
-#[cycle(has_has_anew_has_both_has_either_has_pair_has_rounds)]
+#[cycle(membership)]
 fn has_either<A: Alphabet>(
     alphabet: &A,
     rows: &[Row],
@@ -144,7 +144,7 @@ fn has_either<A: Alphabet>(
 }
 
 // A sequence.
-#[cycle(has_has_anew_has_both_has_either_has_pair_has_rounds)]
+#[cycle(membership)]
 fn has_pair<A: Alphabet>(
     alphabet: &A,
     rows: &[Row],
@@ -172,7 +172,7 @@ fn has_pair<A: Alphabet>(
 }
 
 // A star: its first round takes at least one symbol.
-#[cycle(has_has_anew_has_both_has_either_has_pair_has_rounds)]
+#[cycle(membership)]
 fn has_rounds<A: Alphabet>(
     alphabet: &A,
     rows: &[Row],
@@ -201,7 +201,7 @@ fn has_rounds<A: Alphabet>(
 }
 
 // Whether the first node has the stretch from i to k and the second that from k to j.
-#[cycle(has_has_anew_has_both_has_either_has_pair_has_rounds)]
+#[cycle(membership)]
 pub(crate) fn has_both<A: Alphabet>(
     alphabet: &A,
     rows: &[Row],

@@ -12,7 +12,7 @@ use rules::row::{CHOICE, SEQUENCE};
 use rules::{Alphabet, Row};
 
 // Finds the code of the best reading of a stretch that the node has.
-#[cycle(best_code_best_part_solve_solve_splits)]
+#[cycle(solving)]
 pub(crate) fn solve<A: Alphabet, P: Policy>(
     alphabet: &A,
     policy: &P,
@@ -40,7 +40,7 @@ pub(crate) fn solve<A: Alphabet, P: Policy>(
 }
 
 // The code of the best reading of a stretch that the node has.
-#[cycle(best_code_best_part_solve_solve_splits)]
+#[cycle(solving)]
 fn best_code<A: Alphabet, P: Policy>(
     alphabet: &A,
     policy: &P,
@@ -70,7 +70,7 @@ fn best_code<A: Alphabet, P: Policy>(
 }
 
 // A choice: the part that is read, or the better of two.
-#[cycle(best_code_best_part_solve_solve_splits)]
+#[cycle(solving)]
 fn best_part<A: Alphabet, P: Policy>(
     alphabet: &A,
     policy: &P,
@@ -107,7 +107,7 @@ fn best_part<A: Alphabet, P: Policy>(
 }
 
 // Finds the codes of both halves of every split of a sequence that has both.
-#[cycle(best_code_best_part_solve_solve_splits)]
+#[cycle(solving)]
 fn solve_splits<A: Alphabet, P: Policy>(
     alphabet: &A,
     policy: &P,

@@ -33,7 +33,7 @@ fn walk<K: Keyed>(
     first: &[Option<(usize, usize)>],
     second: &[Option<(usize, usize)>],
 ) -> Ordering
-    ensures { length first.now ≡ length second.now → KeysCompare (keys (key keyed.now) rows.now first.now) (keys (key keyed.now) rows.now second.now) result }
+    ensures { length first.now ≡ length second.now → KeysCompare (keys (K.key keyed.now) rows.now first.now) (keys (K.key keyed.now) rows.now second.now) result }
 {
     let n = rows.len().min(first.len()).min(second.len());
     for i in 0..n {
@@ -56,7 +56,7 @@ pub fn rank_by_keys<K: Keyed>(
     first: &[Option<(usize, usize)>],
     second: &[Option<(usize, usize)>],
 ) -> Ordering
-    ensures { Ranks (above_by (key keyed.now)) rows.now node first.now second.now result }
+    ensures { Ranks (above_by (K.key keyed.now)) rows.now node first.now second.now result }
 {
     if node > rows.len() {
         return Ordering::Equal;

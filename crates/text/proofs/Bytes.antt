@@ -1,8 +1,7 @@
 -- The front of a text, as the lexer's patterns take it apart.
 use Rattle.std.proofs.Common.{◌≡◌, ℕ, suc, ◌+◌, ◌-◌, ◌<◌, ◌≤◌, List, [], ◌∷◌, ◌++◌, length, get_or, take, drop, sym, refl, ap, ◌∙◌, subst, le_refl, add-one, arith, length-append, length-drop, take-append-drop, drop_of_length-le, take_all, drop-cons, drop-drop}
 use lib.Seq.{drop-append_seam}
-use Rattle.text.specs.Grammar.{Plain}
-use Rattle.text.specs.Signs.{Mark, one, Lex, lex_open, lex_close, lex_bar, lex_star, lex_dot, lex_plain, lex_escape, lex_class, mark, Borrows, Signed, Unsigned, Stops, stops_empty, stops_close, stops_bar}
+use Rattle.text.specs.Signs.{Mark, one, Lex, lex_open, lex_close, lex_bar, lex_star, lex_dot, lex_plain, lex_escape, lex_class, Signed, Unsigned, Stops, stops_empty, stops_close, stops_bar}
 use Rattle.text.proofs.Lexing.{lex_front, lex_to}
 use Rattle.text.specs.declared.sign.Sign.{Sign}
 

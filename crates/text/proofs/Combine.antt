@@ -1,11 +1,11 @@
 -- What a reader has read, from what the readers that it calls have read.
-use Rattle.std.proofs.Common.{◌≡◌, ℕ, suc, ◌+◌, ◌-◌, ◌*◌, ◌<◌, ◌≤◌, false, List, [], ◌∷◌, ◌++◌, length, drop, set, sym, refl, ap, ◌∙◌, subst, append_assoc, arith, length-append}
+use Rattle.std.proofs.Common.{◌≡◌, ℕ, ◌+◌, false, List, ◌∷◌, ◌++◌, length, drop, set, sym, refl, ap, ◌∙◌, subst, append_assoc, arith, length-append}
 use Rattle.rules.specs.declared.row.Row.{Row}
 use Rattle.rules.specs.Trees.{Tree, empty, leaf, choice, sequence, star, row, rows, size}
 use Rattle.rules.proofs.RowFacts.{length_rows}
-use Rattle.text.specs.Signs.{Mark, open_mark, close_mark, bar_mark, star_mark, dot_mark, one, Lex, lex_open, lex_close, lex_bar, lex_star, mark, Signed, Unsigned, Ends, ends_empty, ends_close, Stops, stops_empty, stops_close, stops_bar}
+use Rattle.text.specs.Signs.{Mark, open_mark, star_mark, Lex, lex_close, lex_bar, lex_star, mark, Signed, Unsigned, Ends, ends_empty, ends_close, Stops, stops_empty, stops_close, stops_bar}
 use Rattle.text.specs.declared.sign.Sign.{Sign}
-use Rattle.text.specs.Readers.{Stars, stars_none, stars_more, Alone, ReadText, ReadBranch, ReadPiece, ReadAtom, text_one, text_either, branch_none, branch_one, branch_and, piece, atom_group, atom_alone}
+use Rattle.text.specs.Readers.{stars_none, stars_more, Alone, ReadText, ReadBranch, ReadPiece, ReadAtom, text_one, text_either, branch_none, branch_one, branch_and, piece, atom_group, atom_alone}
 use Rattle.text.specs.Written.{Holds, Inserted, Reaches, Refuses, Starred}
 use Rattle.text.proofs.Lexing.{one_sign, begins, lex_at, close_is, star_is}
 use Rattle.text.proofs.Unique.{same_text, same_branch, same_piece, ends_no_bar, piece_no_stop, no_atom, open_not_alone, move_text, move_branch}

@@ -1,7 +1,7 @@
 -- The readers' relation is the grammar, read from the left; so no text has two trees.
-use Rattle.std.proofs.Common.{◌≡◌, ℕ, ◌≤◌, List, [], ◌∷◌, ◌++◌, length, sym, refl, ap, ◌∙◌, subst, ap₂, append_assoc, append-nil, arith, length-append}
-use Rattle.rules.specs.Trees.{Tree, empty, leaf, choice, sequence, star}
-use Rattle.text.specs.Grammar.{Plain, Text, Branch, Piece, Atom, one_branch, either, no_piece, one_piece, piece_and, plain_piece, starred, group, dot, class, escaped, itself}
+use Rattle.std.proofs.Common.{◌≡◌, ℕ, List, [], ◌∷◌, ◌++◌, length, sym, refl, ap, ◌∙◌, subst, append_assoc, append-nil, arith, length-append}
+use Rattle.rules.specs.Trees.{Tree, leaf, choice, sequence}
+use Rattle.text.specs.Grammar.{Text, Branch, Piece, Atom, one_branch, either, no_piece, one_piece, piece_and, plain_piece, starred, group, dot, class, escaped, itself}
 use Rattle.text.specs.Signs.{Mark, dot_mark, one, star_mark, Lex, lex_open, lex_close, lex_bar, lex_star, lex_dot, lex_plain, lex_escape, lex_class, Ends, ends_empty, ends_close, Stops, stops_empty, stops_close, stops_bar}
 use Rattle.text.specs.Readers.{Stars, stars_none, stars_more, Alone, alone_dot, alone_one, ReadText, ReadBranch, ReadPiece, ReadAtom, text_one, text_either, branch_none, branch_one, branch_and, piece, atom_group, atom_alone}
 use Rattle.text.proofs.Lexing.{open_is, close_is, bar_is, star_is}

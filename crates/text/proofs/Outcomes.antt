@@ -1,7 +1,6 @@
 -- The text and the rows lent decide what read answers.
-use Rattle.std.proofs.Common.{◌≡◌, ℕ, ◌≤◌, List, ◌++◌, length, drop, Ok, Err, Result, sym, refl, ap, ◌∙◌, ap₂, arith}
+use Rattle.std.proofs.Common.{◌≡◌, ℕ, ◌≤◌, List, ◌++◌, length, drop, Ok, Err, sym, refl, ap, ◌∙◌, ap₂, arith}
 use Rattle.rules.specs.declared.row.Row.{Row}
-use Rattle.rules.specs.declared.denial.Denial.{Denial}
 use Rattle.rules.specs.Trees.{Tree, rows, size}
 use Rattle.rules.proofs.Numbers.{same_number}
 use Rattle.text.specs.Grammar.{Text}

@@ -1,7 +1,7 @@
 -- The readers' relation has one answer at most.
-use Rattle.std.proofs.Common.{◌≡◌, ℕ, Bool, true, false, List, sym, refl, ap, ◌∙◌, subst, ap₂, arith}
+use Rattle.std.proofs.Common.{◌≡◌, ℕ, true, false, List, sym, refl, ap, ◌∙◌, subst, ap₂, arith}
 use borrow.Author.Tests.{clash}
-use Rattle.rules.specs.Trees.{Tree, empty, leaf, choice, sequence, star}
+use Rattle.rules.specs.Trees.{Tree, choice, sequence}
 use Rattle.text.specs.Signs.{Mark, open_mark, close_mark, bar_mark, star_mark, dot_mark, one, Lex, lex_close, lex_bar, Ends, ends_empty, ends_close, Stops, stops_empty, stops_close, stops_bar}
 use Rattle.text.specs.Readers.{Stars, stars_none, stars_more, Alone, alone_dot, alone_one, ReadText, ReadBranch, ReadPiece, ReadAtom, text_one, text_either, branch_none, branch_one, branch_and, piece, atom_group, atom_alone}
 use Rattle.text.proofs.Lexing.{one_sign, begins, stops_begins, lex_to}

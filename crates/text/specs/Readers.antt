@@ -1,5 +1,5 @@
 -- Pattern text read from the left: what each reader takes from the front of its input, and what it leaves. Assumes nothing.
-use Rattle.std.specs.Prelude.{◌≡◌, ℕ, List}
+use Rattle.std.specs.Prelude.{ℕ, List}
 use Rattle.rules.specs.Trees.{Tree, empty, leaf, choice, sequence, star}
 use Rattle.text.specs.Signs.{Mark, open_mark, close_mark, bar_mark, star_mark, dot_mark, one, Lex, Ends, Stops}
 

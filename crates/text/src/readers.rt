@@ -18,7 +18,7 @@ pub(crate) struct Reached {
 }
 
 // A branch, or a branch, `|` and a text.
-#[cycle(read_atom_read_branch_read_piece_read_text)]
+#[cycle(readers)]
 pub(crate) fn read_text(
     text: &[u8],
     from: Reached,
@@ -42,7 +42,7 @@ pub(crate) fn read_text(
 }
 
 // Nothing, a piece, or a piece and a branch that is not nothing.
-#[cycle(read_atom_read_branch_read_piece_read_text)]
+#[cycle(readers)]
 fn read_branch(text: &[u8], from: Reached, scratch: &mut [Row; 64]) -> Result<Reached, Denial>
     requires { (from.at ≤ length text.now) × (from.count + 2 * length text.now < 2 ^ 32 + 2 * from.at) }
     ensures near { IfOk result (λ p. (from.at ≤ p.at) × (p.at ≤ length text.now) × (p.count + 2 * from.at ≤ from.count + 2 * p.at + 1) × ((Stops (drop from.at text.now) → ⊥) → p.count + 2 * from.at + 1 ≤ from.count + 2 * p.at)) }
@@ -68,7 +68,7 @@ fn read_branch(text: &[u8], from: Reached, scratch: &mut [Row; 64]) -> Result<Re
 }
 
 // An atom and its stars.
-#[cycle(read_atom_read_branch_read_piece_read_text)]
+#[cycle(readers)]
 fn read_piece(text: &[u8], from: Reached, scratch: &mut [Row; 64]) -> Result<Reached, Denial>
     requires { (from.at ≤ length text.now) × (from.count + 2 * length text.now < 2 ^ 32 + 2 * from.at) }
     ensures near { IfOk result (λ p. (from.at < p.at) × (p.at ≤ length text.now) × (p.count + 2 * from.at + 1 ≤ from.count + 2 * p.at)) }
@@ -114,7 +114,7 @@ fn put_leaf(scratch: &mut [Row; 64], count: usize, at: usize, low: u8, high: u8)
 }
 
 // `(` text `)`, or one leaf.
-#[cycle(read_atom_read_branch_read_piece_read_text)]
+#[cycle(readers)]
 fn read_atom(text: &[u8], from: Reached, scratch: &mut [Row; 64]) -> Result<Reached, Denial>
     requires { (from.at ≤ length text.now) × (from.count + 2 * length text.now < 2 ^ 32 + 2 * from.at) }
     ensures near { IfOk result (λ p. (from.at < p.at) × (p.at ≤ length text.now) × (p.count + 2 * from.at + 1 ≤ from.count + 2 * p.at)) }

@@ -1,4 +1,4 @@
-use Rattle.std.proofs.Common.{◌≡◌, List, ◌++◌, drop, sym, refl, ap, ◌∙◌, arith, rules}
+use Rattle.std.proofs.Common.{List, ◌++◌, drop, refl, ap, ◌∙◌, arith}
 use Rattle.rules.specs.declared.row.Row.{Row}
 use Rattle.std.proofs.lemmas.Result.{err_from_is_err_and}
 use Rattle.text.specs.Reading.{too_long, not_derived, too_many_rows, no_room}

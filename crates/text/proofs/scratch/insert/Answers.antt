@@ -1,6 +1,4 @@
-use Rattle.std.proofs.Common.{◌≡◌, ℕ, ◌+◌, ◌-◌, ◌<◌, ◌≢◌, length, get_or, set, sym, refl, ap, ◌∙◌, arith, length-set, get_or-set_other, get_or-set_same}
-use native.Mathlib.Decide.{dec_lt}
-use Rattle.rules.specs.declared.row.Row.{Row}
+use Rattle.std.proofs.Common.{◌≢◌, ◌∙◌, arith, length-set, get_or-set_other}
 use Rattle.rules.specs.Trees.{row}
 use Rattle.text.proofs.Building.{moved_up}
 use Rattle.text.proofs.scratch.insert.Goals as goal

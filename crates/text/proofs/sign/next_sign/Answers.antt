@@ -2,7 +2,7 @@ use Rattle.std.proofs.Common.{◌≡◌, ◌-◌, ◌<◌, length, take, drop, r
 use Rattle.text.specs.Signs.{lex_open, lex_close, lex_bar, lex_star, lex_dot, lex_plain}
 use Rattle.text.proofs.Bytes.{rest_is, byte_signed, front_is, two_is, two_lex, five_lex, unsigned_empty, unsigned_end, unsigned_escape, unsigned_class}
 use Rattle.text.proofs.sign.next_sign.Goals as goal
-use Rattle.text.proofs.sign.next_sign.Goals.{in-default-text-via-then-text-lt5, in-default-text-via-in-91-text+else-low-high, in-default-text-via-else-text-lt5+in-91·+in-45·+in_default·, in-default-text-via-else-text-lt5+in-91·+in_default·, in-default-text-via-else-text-lt5+in-default·}
+use Rattle.text.proofs.sign.next_sign.Goals.{in_default-text-via-then-text-lt5, in_default-text-via-in-91-text+else-low-high, in_default-text-via-else-text-lt5+in-91+in-45+in_default-1, in_default-text-via-else-text-lt5+in-91+in_default-1, in_default-text-via-else-text-lt5+in_default-1}
 
 pub returns-in_default : goal.returns-in_default
 returns-in_default c = (refl, unsigned_empty _ (omega (arith, ltb-true, ltb-false)))
@@ -35,7 +35,7 @@ returns-in-91-text c =
     }
 
 pub returns-in_default-text : goal.returns-in_default-text
-returns-in_default-text c = (refl, unsigned_class _ c.in-91.is (λ l d f g. elim c.in_default-text.branch [ in-default-text-via-then-text-lt5 w ↦ omega (arith, ltb-true, ltb-false) | in-default-text-via-in-91-text+else-low-high w ↦ omega arith | in-default-text-via-else-text-lt5+in-91·+in-45·+in_default· w ↦ omega arith | in-default-text-via-else-text-lt5+in-91·+in_default· w ↦ omega arith | in-default-text-via-else-text-lt5+in-default· w ↦ omega arith ]))
+returns-in_default-text c = (refl, unsigned_class _ c.in-91.is (λ l d f g. elim c.in_default-text.branch [ in_default-text-via-then-text-lt5 w ↦ omega (arith, ltb-true, ltb-false) | in_default-text-via-in-91-text+else-low-high w ↦ omega arith | in_default-text-via-else-text-lt5+in-91+in-45+in_default-1 w ↦ omega arith | in_default-text-via-else-text-lt5+in-91+in_default-1 w ↦ omega arith | in_default-text-via-else-text-lt5+in_default-1 w ↦ omega arith ]))
 
 pub returns-in-93 : goal.returns-in-93
 returns-in-93 c = (refl, unsigned_end _ c.in-93.is)

@@ -1,4 +1,4 @@
-use Rattle.std.proofs.Common.{◌≡◌, ◌<◌, ◌≤◌, true, false, length, arith, eqb-true}
+use Rattle.std.proofs.Common.{◌<◌, ◌≤◌, length, arith, eqb-true}
 use borrow.Author.Tests.{eqb-false, clash}
 use Rattle.text.proofs.Bytes.{there, there_back, past_none}
 use Rattle.text.proofs.sign.stands_at.Goals as goal

@@ -1,4 +1,4 @@
-use Rattle.std.proofs.Common.{◌≡◌, [], sym, arith}
+use Rattle.std.proofs.Common.{sym, arith}
 use borrow.Author.Tests.{clash}
 use Rattle.text.specs.Signs.{stops_empty, stops_close, stops_bar}
 use Rattle.text.proofs.Bytes.{past, not_past, stops_at, stops_from}

@@ -4,7 +4,7 @@ use Rattle.positions.specs.SetsOf.{kept_follow}
 use Rattle.positions.proofs.Loops.{followers_turn, followers_end, followers_skip, followers_stop}
 use Rattle.positions.proofs.Masks.{none_below}
 use Rattle.positions.proofs.sets.Positions.followers.Goals as goal
-use Rattle.positions.proofs.sets.Positions.followers.Goals.{Then-member, Else-member}
+use Rattle.positions.proofs.sets.Positions.followers.Goals.{then-member, else-member}
 
 pub loop-p-init : goal.loop-p-init
 loop-p-init c = followers_skip (kept_follow c.args.self.now) c.args.set _ (λ q h. none_below 32 c.args.set q h)
@@ -16,8 +16,8 @@ loop-p-preserved c =
     let p = c.loop-p.p in
     let next = c.loop-p.next in
     elim c.if-member.branch [
-      | Then-member w ↦ followers_turn all count c.args.set p next c.if-member.next true c.loop-p-test.true (omega (arith, c.args.self.now.few)) w.if-member.ensures w.next-is c.loop-p.invariant
-      | Else-member w ↦ followers_turn all count c.args.set p next c.if-member.next false c.loop-p-test.true (omega (arith, c.args.self.now.few)) w.if-member.ensures (w.next-is ∙ sym (or_zero_r next)) c.loop-p.invariant
+      | then-member w ↦ followers_turn all count c.args.set p next c.if-member.next true c.loop-p-test.true (omega (arith, c.args.self.now.few)) w.if-member.ensures w.next-is c.loop-p.invariant
+      | else-member w ↦ followers_turn all count c.args.set p next c.if-member.next false c.loop-p-test.true (omega (arith, c.args.self.now.few)) w.if-member.ensures (w.next-is ∙ sym (or_zero_r next)) c.loop-p.invariant
     ]
 
 pub returns-then-set-p-eq0 : goal.returns-then-set-p-eq0

@@ -7,11 +7,10 @@ pub visit-whole-requires : goal.visit-whole-requires
 visit-whole-requires c = placed_whole c.rows-rows.result.now (subst Ruled (sym c.rows-rows.ensures.value) c.rows-rows.ensures.ruled)
 
 pub invariant_of-result : goal.invariant_of-result
-invariant_of-result c = (
-  few_whole c.rows-rows.result.now (replicate 32 0) c.visit-whole.new.follow c.visit-whole.result
-      (subst Ruled (sym c.rows-rows.ensures.value) c.rows-rows.ensures.ruled) c.visit-whole.ensures,
-  tt,
-)
+invariant_of-result c = record {
+  few = few_whole c.rows-rows.result.now (replicate 32 0) c.visit-whole.new.follow c.visit-whole.result
+      (subst Ruled (sym c.rows-rows.ensures.value) c.rows-rows.ensures.ruled) c.visit-whole.ensures;
+}
 
 pub returns : goal.returns
 returns c t e =

@@ -4,20 +4,20 @@ use Rattle.rules.specs.Trees.{row}
 use Rattle.positions.proofs.Visiting.{placed_inside, leaf_room, placed_one, placed_two, visited_empty, visited_leaf, visited_star, visited_choice, visited_sequence}
 use Rattle.positions.proofs.sets.visit.+visit.Goals as goal
 
-pub offset-bounds-rows-node : goal.offset-bounds-rows-node
-offset-bounds-rows-node t c = let h = placed_inside c.args.rows.now c.args.node c.args.leaf c.requires in omega arith
+pub offset_bounds-rows-node : goal.offset_bounds-rows-node
+offset_bounds-rows-node t c = let h = placed_inside c.args.rows.now c.args.node c.args.leaf c.requires in omega arith
 
 pub bounds-rows-node : goal.bounds-rows-node
 bounds-rows-node t c = placed_inside c.args.rows.now c.args.node c.args.leaf c.requires
 
-pub overflow-add-next : goal.overflow-add-next
-overflow-add-next t c = let h = placed_inside c.args.rows.now c.args.node c.args.leaf c.requires in omega arith
+pub overflow_add-next : goal.overflow_add-next
+overflow_add-next t c = let h = placed_inside c.args.rows.now c.args.node c.args.leaf c.requires in omega arith
 
 pub returns-then-kind-eq-EMPTY : goal.returns-then-kind-eq-EMPTY
 returns-then-kind-eq-EMPTY t c = visited_empty c.args.rows.now c.args.node c.args.leaf (row 0 0 0) c.args.follow.now c.if-kind-eq-EMPTY.true
 
-pub overflow-shl-bit : goal.overflow-shl-bit
-overflow-shl-bit t c = leaf_room c.args.rows.now c.args.node c.args.leaf (row 0 0 0) c.if-kind-eq-LEAF.true c.requires
+pub overflow_shl-bit : goal.overflow_shl-bit
+overflow_shl-bit t c = leaf_room c.args.rows.now c.args.node c.args.leaf (row 0 0 0) c.if-kind-eq-LEAF.true c.requires
 
 pub returns-then-kind-eq-LEAF : goal.returns-then-kind-eq-LEAF
 returns-then-kind-eq-LEAF t c =

@@ -1,7 +1,7 @@
 use Rattle.std.proofs.Common.{◌+◌, true, sym, subst}
 use Rattle.positions.proofs.Linking.{Linked, link_turn, link_kept, link_end}
 use Rattle.positions.proofs.sets.visit.link.Goals as goal
-use Rattle.positions.proofs.sets.visit.link.Goals.{Then-member, Else-member}
+use Rattle.positions.proofs.sets.visit.link.Goals.{then-member, else-member}
 
 pub loop-p-preserved : goal.loop-p-preserved
 loop-p-preserved c =
@@ -9,8 +9,8 @@ loop-p-preserved c =
     let new = c.loop-p.follow in
     let p = c.loop-p.p in
     elim c.if-member.branch [
-      | Then-member w ↦ link_turn old new c.if-member.follow c.args.set c.args.more p true c.loop-p-test.true w.if-member.ensures w.follow_is c.loop-p.invariant
-      | Else-member w ↦ subst (Linked old c.args.set c.args.more (p + 1)) (sym w.follow_is) (link_kept old new c.args.set c.args.more p c.loop-p-test.true w.if-member.ensures c.loop-p.invariant)
+      | then-member w ↦ link_turn old new c.if-member.follow c.args.set c.args.more p true c.loop-p-test.true w.if-member.ensures w.follow-is c.loop-p.invariant
+      | else-member w ↦ subst (Linked old c.args.set c.args.more (p + 1)) (sym w.follow-is) (link_kept old new c.args.set c.args.more p c.loop-p-test.true w.if-member.ensures c.loop-p.invariant)
     ]
 
 pub returns : goal.returns

@@ -1,7 +1,7 @@
 use Rattle.std.proofs.Common.{◌+◌, ◌-◌, ◌*◌, length, get_or}
 use Rattle.rules.specs.Languages.{seen}
 use Rattle.matcher.specs.States.{Prepared}
-use Rattle.matcher.proofs.solving.+best_code_best_part_solve_solve_splits.Given as goal
+use Rattle.matcher.proofs.solving.+solving.Given as goal
 
 abbrev pub decreases-solve : goal.decreases-solve
 decreases-solve g l = ((length l.rows.now - l.node) * 122 + (l.j - l.i)) * 5 + 4

@@ -1,5 +1,5 @@
 use Rattle.std.proofs.Common.{◌+◌, ◌*◌, max, length}
-use Rattle.cases.proofs.membership.+member_member_pair_member_rounds.Given as goal
+use Rattle.cases.proofs.membership.+membership.Given as goal
 
 abbrev pub decreases-member : goal.decreases-member
 decreases-member l = (length l.rows.now + length l.word.now) * 2 + 1

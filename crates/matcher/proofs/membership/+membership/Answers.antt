@@ -4,7 +4,7 @@ use Rattle.rules.specs.Languages.{seen, Sight}
 use Rattle.matcher.proofs.Places.{place_in}
 use Rattle.matcher.proofs.Marks.{room_kept}
 use Rattle.matcher.proofs.Answered.{told_lacks, told_has, told_marked, told_empty, told_leaf, both_not, both_so, either_first, either_second, pair_start, pair_end, pair_found, pair_more, pair_none, rounds_end, rounds_nothing, rounds_found, rounds_more, rounds_none, asked_first, asked_second, asked_part, asked_self, first_in}
-use Rattle.matcher.proofs.membership.+has_has_anew_has_both_has_either_has_pair_has_rounds.Goals as goal
+use Rattle.matcher.proofs.membership.+membership.Goals as goal
 
 pub has-returns-then-known : goal.has-returns-then-known
 has-returns-then-known g t c = told_lacks c.args.rows.now (seen (g.A.Alphabet.held c.args.alphabet.now) c.args.name.now) (length c.args.name.now) c.args.bench.now c.args.node c.args.i c.args.j c.requires.asked.start c.requires.asked.end c.requires.sound c.look-known.result c.look-known.ensures c.if-known.true

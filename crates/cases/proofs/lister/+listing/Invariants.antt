@@ -1,5 +1,5 @@
 use Rattle.std.proofs.Common.{◌+◌, ◌*◌, max, length}
-use Rattle.cases.proofs.lister.+list_list_choice_list_sequence.Given as goal
+use Rattle.cases.proofs.lister.+listing.Given as goal
 
 abbrev pub decreases-list : goal.decreases-list
 decreases-list l = length l.rows.now * 2 + 1

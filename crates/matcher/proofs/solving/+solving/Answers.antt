@@ -8,8 +8,8 @@ use Rattle.matcher.proofs.Firm.{right_told, right_both}
 use Rattle.matcher.proofs.Answered.{asked_first, asked_second, first_in}
 use Rattle.matcher.proofs.Alone.{alone_got}
 use Rattle.matcher.proofs.Solutions.{present_second, got_second, got_first, got_better, prepared_none, prepared_all, prepared_skip, prepared_solved, ready_at, got_split, settled_put}
-use Rattle.matcher.proofs.solving.+best_code_best_part_solve_solve_splits.Goals as goal
-use Rattle.matcher.proofs.solving.+best_code_best_part_solve_solve_splits.Goals.{solve-splits-then-has-both, solve-splits-else-has-both}
+use Rattle.matcher.proofs.solving.+solving.Goals as goal
+use Rattle.matcher.proofs.solving.+solving.Goals.{solve-splits-then-has-both, solve-splits-else-has-both}
 
 pub best-code-returns : goal.best-code-returns
 best-code-returns g t c = alone_got (g.P.Policy.above c.args.policy.now) c.args.rows.now (seen (g.A.Alphabet.held c.args.alphabet.now) c.args.name.now) (length c.args.name.now) c.args.bench.now c.args.node c.args.i c.args.j c.requires.asked.start c.requires.asked.end (length-map {B = Sight} c.args.name.now (λ s lo hi. g.A.Alphabet.held c.args.alphabet.now lo hi s)) c.if-kind-eq-CHOICE.false c.if-kind-eq-SEQUENCE.false c.requires.present c.requires.right

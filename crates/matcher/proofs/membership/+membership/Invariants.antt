@@ -1,7 +1,7 @@
 use Rattle.std.proofs.Common.{◌+◌, ◌-◌, ◌*◌, max, length}
 use Rattle.rules.specs.Languages.{seen}
 use Rattle.matcher.specs.States.{NoSplit, NoRound}
-use Rattle.matcher.proofs.membership.+has_has_anew_has_both_has_either_has_pair_has_rounds.Given as goal
+use Rattle.matcher.proofs.membership.+membership.Given as goal
 
 abbrev pub decreases-has : goal.decreases-has
 decreases-has g l = ((length l.rows.now - l.node) * 122 + (l.j - l.i)) * 5 + 4
