@@ -15,8 +15,8 @@ returns-then-not-fits g c = λ t e. (
   refl,
 )
 
-pub read-whole-requires : goal.read-whole-requires
-read-whole-requires g c =
+pub read_whole-requires : goal.read_whole-requires
+read_whole-requires g c =
     let rule = moved_rule c.rows-rows.result.now (rule_rows c.args.rule.now) c.rows-rows.ensures.value c.rows-rows.ensures.ruled in
     let f = c.fits.ensures.yes c.if-not-fits.false in
     record {
@@ -25,19 +25,19 @@ read-whole-requires g c =
       long = front_long (length c.rows-rows.result.now) c.args.report.now f.entries;
     }
 
-pub returns-then-read-whole : goal.returns-then-read-whole
-returns-then-read-whole g c = λ t e. (
+pub returns-then-read_whole : goal.returns-then-read_whole
+returns-then-read_whole g c = λ t e. (
   fit c.rows-rows.result.now t (c.rows-rows.ensures.value ∙ e) (seen (g.A.Alphabet.held c.args.alphabet.now) c.args.name.now) (length c.args.name.now) (length-map {B = Sight} c.args.name.now (λ s lo hi. g.A.Alphabet.held c.args.alphabet.now lo hi s)) c.args.bench.now c.args.report.now (c.fits.ensures.yes c.if-not-fits.false),
   (
-    c.read-whole.new.out,
-    c.read-whole.ensures.found c.if-read-whole.true t (c.rows-rows.ensures.value ∙ e),
-    in_front c.rows-rows.result.now t (c.rows-rows.ensures.value ∙ e) (seen (g.A.Alphabet.held c.args.alphabet.now) c.args.name.now) (length c.args.name.now) (length-map {B = Sight} c.args.name.now (λ s lo hi. g.A.Alphabet.held c.args.alphabet.now lo hi s)) c.args.bench.now c.args.report.now c.read-whole.new.out,
+    c.read_whole.new.out,
+    c.read_whole.ensures.found c.if-read_whole.true t (c.rows-rows.ensures.value ∙ e),
+    in_front c.rows-rows.result.now t (c.rows-rows.ensures.value ∙ e) (seen (g.A.Alphabet.held c.args.alphabet.now) c.args.name.now) (length c.args.name.now) (length-map {B = Sight} c.args.name.now (λ s lo hi. g.A.Alphabet.held c.args.alphabet.now lo hi s)) c.args.bench.now c.args.report.now c.read_whole.new.out,
   ),
 )
 
 pub returns : goal.returns
 returns g c = λ t e. (
   fit c.rows-rows.result.now t (c.rows-rows.ensures.value ∙ e) (seen (g.A.Alphabet.held c.args.alphabet.now) c.args.name.now) (length c.args.name.now) (length-map {B = Sight} c.args.name.now (λ s lo hi. g.A.Alphabet.held c.args.alphabet.now lo hi s)) c.args.bench.now c.args.report.now (c.fits.ensures.yes c.if-not-fits.false),
-  c.read-whole.ensures.none c.if-read-whole.false t (c.rows-rows.ensures.value ∙ e),
-  as_it_was (length c.rows-rows.result.now) c.read-whole.new.out c.args.report.now (c.read-whole.ensures.kept c.if-read-whole.false),
+  c.read_whole.ensures.none c.if-read_whole.false t (c.rows-rows.ensures.value ∙ e),
+  as_it_was (length c.rows-rows.result.now) c.read_whole.new.out c.args.report.now (c.read_whole.ensures.kept c.if-read_whole.false),
 )

@@ -12,8 +12,8 @@ bounds-table-node c =
     let p = as_pair c.args.rows.now c.args.table.now c.args.node c.requires.behind c.if-kind-le-LEAF.false c.if-kind-le-SEQUENCE.true f.tree f.stands in
     omega (arith)
 
-pub overflow-add-result : goal.overflow-add-result
-overflow-add-result c =
+pub overflow_add-result : goal.overflow_add-result
+overflow_add-result c =
     let f = found c.args.rows.now c.requires.tree c.args.node c.requires.inside in
     let p = as_pair c.args.rows.now c.args.table.now c.args.node c.requires.behind c.if-kind-le-LEAF.false c.if-kind-le-SEQUENCE.true f.tree f.stands in
     omega (arith)
@@ -24,8 +24,8 @@ bounds-table-node-then-kind-le-SEQUENCE c =
     let p = as_pair c.args.rows.now c.args.table.now c.args.node c.requires.behind c.if-kind-le-LEAF.false c.if-kind-le-SEQUENCE.true f.tree f.stands in
     omega (arith)
 
-pub overflow-add-result-then-kind-le-SEQUENCE-3 : goal.overflow-add-result-then-kind-le-SEQUENCE-3
-overflow-add-result-then-kind-le-SEQUENCE-3 c =
+pub overflow_add-result-then-kind-le-SEQUENCE-3 : goal.overflow_add-result-then-kind-le-SEQUENCE-3
+overflow_add-result-then-kind-le-SEQUENCE-3 c =
     let f = found c.args.rows.now c.requires.tree c.args.node c.requires.inside in
     let p = as_pair c.args.rows.now c.args.table.now c.args.node c.requires.behind c.if-kind-le-LEAF.false c.if-kind-le-SEQUENCE.true f.tree f.stands in
     let e = both_sizes c.args.table.now c.args.node (size p.first) (size p.second) p.first_size p.second_size in
@@ -37,8 +37,8 @@ bounds-table-node-else-kind-le-SEQUENCE c =
     let p = as_single c.args.rows.now c.args.table.now c.args.node c.requires.behind c.if-kind-le-SEQUENCE.false f.tree f.stands in
     omega (arith)
 
-pub overflow-add-result-else-kind-le-SEQUENCE-2 : goal.overflow-add-result-else-kind-le-SEQUENCE-2
-overflow-add-result-else-kind-le-SEQUENCE-2 c =
+pub overflow_add-result-else-kind-le-SEQUENCE-2 : goal.overflow_add-result-else-kind-le-SEQUENCE-2
+overflow_add-result-else-kind-le-SEQUENCE-2 c =
     let f = found c.args.rows.now c.requires.tree c.args.node c.requires.inside in
     let p = as_single c.args.rows.now c.args.table.now c.args.node c.requires.behind c.if-kind-le-SEQUENCE.false f.tree f.stands in
     omega (arith)

@@ -6,4 +6,4 @@ pub loop-node-init : goal.loop-node-init
 loop-node-init c = sized_none c.args.rows.now
 
 pub loop-node-preserved : goal.loop-node-preserved
-loop-node-preserved c = sized_more c.args.rows.now c.loop-node.table c.loop-node.node c.size-at.result c.loop-node.invariant (omega arith) c.size-at.ensures
+loop-node-preserved c = sized_more c.args.rows.now c.loop-node.table c.loop-node.node c.size_at.result c.loop-node.invariant (omega arith) c.size_at.ensures
