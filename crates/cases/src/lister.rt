@@ -12,7 +12,7 @@ fn add(
     left: &[Option<(usize, usize)>],
     right: &[Option<(usize, usize)>],
 ) -> Result<(), AllocError> {
-    let mut reading = Vec::new(out.allocator());
+    let mut reading = Vec::new(*out.allocator());
     reading.push(Some(own))?;
     reading.extend_from_slice(left)?;
     reading.extend_from_slice(right)?;
@@ -70,7 +70,7 @@ fn list_star(
     if !member(rows, word) {
         return Ok(());
     }
-    let below = vec![in out.allocator(); None; rows.len().saturating_sub(1)]?;
+    let below = vec![in *out.allocator(); None; rows.len().saturating_sub(1)]?;
     add(out, own, &below, &[])
 }
 
@@ -115,7 +115,7 @@ fn list_choice(
     requires i_le_j { i ≤ j }
     requires j_in_bounds { j ≤ length name.now }
 {
-    let heap = out.allocator();
+    let heap = *out.allocator();
     let mut lefts = Vec::new(heap);
     list(first, name, i, j, &mut lefts)?;
     let mut rights = Vec::new(heap);
@@ -140,7 +140,7 @@ fn list_sequence(
     requires i_le_j { i ≤ j }
     requires j_in_bounds { j ≤ length name.now }
 {
-    let heap = out.allocator();
+    let heap = *out.allocator();
     for k in i..j + 1 {
         let mut lefts = Vec::new(heap);
         list(first, name, i, k, &mut lefts)?;

@@ -74,7 +74,7 @@ pub fn serve_line(
 {
     match (state, kind_of(line)) {
         (State::Awaiting, Line::Policy(policy)) => {
-            let sheet = opened(out.allocator(), policy)?;
+            let sheet = opened(*out.allocator(), policy)?;
             Ok((State::Serving, sheet))
         }
         (State::Awaiting, Line::Rule(_)) => question(state, sheet, out),

@@ -30,7 +30,7 @@ fn denial_line(heap: Global, denial: Denial) -> Result<Vec<u8>, AllocError>
 pub(crate) fn print_denial(denial: Denial, out: &mut Vec<u8>) -> Result<(), AllocError>
     ensures { MatchResult result (λ _. out.new.items ≡ out.old.items ++ denied (number denial)) (λ _. out.new.items ≡ out.old.items) }
 {
-    let line = denial_line(out.allocator(), denial)?;
+    let line = denial_line(*out.allocator(), denial)?;
     out.extend_from_slice(&line)
 }
 
@@ -83,6 +83,6 @@ pub(crate) fn print_reading(
 ) -> Result<(), AllocError>
     ensures { MatchResult result (λ _. out.new.items ≡ out.old.items ++ name_said (Ok (place, reading.now))) (λ _. out.new.items ≡ out.old.items) }
 {
-    let line = reading_line(out.allocator(), place, reading)?;
+    let line = reading_line(*out.allocator(), place, reading)?;
     out.extend_from_slice(&line)
 }

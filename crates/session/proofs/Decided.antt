@@ -1,5 +1,5 @@
 -- The lines decide what is printed.
-use Rattle.std.proofs.Common.{◌≡◌, ℕ, List, ◌++◌, sym, refl, ap, ◌∙◌, subst, ap₂}
+use Rattle.std.proofs.Common.{◌≡◌, ℕ, List, ◌++◌, sym, refl, ap, subst, ap₂}
 use Rattle.text.proofs.Outcomes.{one_number, read_not_denied}
 use Rattle.session.specs.declared.line.State.{State}
 use Rattle.session.specs.Served.{denied, RulePrints, rule_read, rule_denied, Answers, policy_comes, policy_awaited, rule_comes, not_served, Session, session_ends, session_goes}

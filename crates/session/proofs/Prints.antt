@@ -1,5 +1,5 @@
 -- What is appended to the output, and which lines are of no kind that is served.
-use Rattle.std.proofs.Common.{◌≡◌, ℕ, cond, ◌⊎◌, List, [], ◌∷◌, ◌++◌, is_ok, Ok, Err, codes, Result, sym, refl, ap, ◌∙◌, subst, inl, inr, ⊎_elim, append-nil, arith, MatchResult}
+use Rattle.std.proofs.Common.{◌≡◌, ℕ, cond, List, [], ◌∷◌, ◌++◌, is_ok, Ok, Err, Result, sym, subst, ⊎_elim, append-nil, arith, MatchResult}
 use Rattle.session.specs.declared.line.State.{State}
 use Rattle.session.specs.declared.line.State.TheVariants.{Awaiting, Serving}
 use Rattle.session.specs.Kinds.{NamesPolicy, rule_line}

@@ -1,5 +1,5 @@
 -- What netread prints, line by line. Assumes nothing.
-use Rattle.std.specs.Prelude.{◌≡◌, ℕ, ◌≤◌, List, [], ◌∷◌, ◌++◌, length, codes, decimal, ◌≢◌}
+use Rattle.std.specs.Prelude.{◌≡◌, ℕ, ◌≤◌, List, [], ◌∷◌, ◌++◌, length, decimal, ◌≢◌}
 use Rattle.rules.specs.Trees.{Tree, size}
 use Rattle.text.specs.Grammar.{Text}
 use Rattle.text.specs.Reading.{Denied}

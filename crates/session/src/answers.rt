@@ -29,7 +29,7 @@ fn serve_rule(text: &[u8], out: &mut Vec<u8>) -> Result<(), AllocError>
     match read(text, &mut rows) {
         Ok(_) => Ok(()),
         Err(denial) => {
-            let line = denial_line(out.allocator(), denial)?;
+            let line = denial_line(*out.allocator(), denial)?;
             out.extend_from_slice(line.as_bytes())
         }
     }

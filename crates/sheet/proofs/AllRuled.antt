@@ -1,13 +1,12 @@
 -- Every rule that a list of calls leaves is one: the rows of a tree, at most 64.
-use Rattle.std.proofs.Common.{◌≡◌, ℕ, zero, suc, ◌+◌, ◌<◌, ◌≤◌, Bool, true, false, cond, ◌||◌, eqb, ltb, leb, ◌⊎◌, List, [], ◌∷◌, ◌++◌, length, take, drop, Some, None, Option, sym, refl, ap, ◌∙◌, subst, inl, inr, ⊎_elim, arith}
+use Rattle.std.proofs.Common.{◌≡◌, ℕ, zero, suc, ◌+◌, ◌<◌, ◌≤◌, Bool, true, false, ◌||◌, eqb, ltb, leb, List, [], ◌∷◌, ◌++◌, length, take, drop, Some, None, Option, sym, refl, ap, ◌∙◌, ⊎_elim, arith}
 use Rattle.std.proofs.lemmas.Bool.{cases_Bool, cond-true, cond-false, ltb-false}
 use Rattle.rules.specs.declared.row.Row.{Row}
-use Rattle.rules.specs.Trees.{Tree, size}
 use Rattle.rules.specs.RuleRows.{Ruled}
-use Rattle.rules.specs.Checks.{met, checks}
+use Rattle.rules.specs.Checks.{checks}
 use Rattle.rules.proofs.RowFacts.{length_rows}
 use Rattle.rules.proofs.Shapes.{the_tree_of}
-use Rattle.sheet.specs.Changes.{Rules, changed, add_met, added, place_met, dropped}
+use Rattle.sheet.specs.Changes.{Rules, changed, add_met, place_met}
 use Rattle.sheet.specs.Questions.{at}
 use Rattle.sheet.specs.Histories.{Call, add, lock, unlock, ask, held_then, held_from, held_after}
 use Rattle.sheet.specs.Histories.{drop as drop-call}

@@ -1,5 +1,5 @@
 -- The position sets beside a rule are those of its tree.
-use Rattle.std.proofs.Common.{◌≡◌, ℕ, List}
+use Rattle.std.proofs.Common.{ℕ, List}
 use mathlib.Core.Bool.{Bool-set}
 use mathlib.Core.List.{is_set}
 use mathlib.Core.HLevel.{Π_prop, Σ_set}

@@ -1,13 +1,13 @@
 -- The law over histories follows from what the questions' answers are, by the rules held.
-use Rattle.std.proofs.Common.{◌≡◌, ℕ, ◌<◌, ◌≤◌, Bool, ◌⊎◌, ◌↔◌, List, [], length, Some, None, Ok, Err, Option, sym, refl, ap, ◌∙◌, subst, inl, inr, ⊎_elim, arith}
+use Rattle.std.proofs.Common.{◌≡◌, ℕ, ◌<◌, ◌≤◌, Bool, ◌⊎◌, ◌↔◌, List, [], length, Ok, Err, Option, sym, ap, ◌∙◌, subst, inl, inr, ⊎_elim, arith}
 use Rattle.std.proofs.lemmas.Bool.{cases_order}
 use Rattle.rules.specs.declared.row.Row.{Row}
 use Rattle.rules.specs.Languages.{Sight, seen}
 use Rattle.rules.specs.Readings.{Reading}
 use Rattle.policies.specs.Orders.{Order, Decided}
 use Rattle.sheet.specs.Changes.{Rules}
-use Rattle.sheet.specs.Questions.{at, Read, BestBy, Lowest, name_met, spans_met}
-use Rattle.sheet.specs.Histories.{Question, spans, govern, sets, Call, held_from, held_after}
+use Rattle.sheet.specs.Questions.{at, Read, BestBy, Lowest}
+use Rattle.sheet.specs.Histories.{Question, spans, govern, Call, held_from, held_after}
 use Rattle.sheet.specs.Law.{Told, spans_told, govern_told, SpansTold, GovernTold, Answered, Fitting, Law}
 use Rattle.sheet.proofs.AllRuled.{held_ruled_at}
 use Rattle.sheet.proofs.Once.{answered_once}

@@ -1,5 +1,5 @@
 -- A question has one answer, whatever sheet with the same rules is asked.
-use Rattle.std.proofs.Common.{◌≡◌, ℕ, ◌<◌, ◌≤◌, Bool, true, ◌⊎◌, List, length, Some, None, Ok, Err, Option, sym, refl, ap, ◌∙◌, subst, inl, inr, ⊎_elim, arith}
+use Rattle.std.proofs.Common.{◌≡◌, ℕ, ◌<◌, ◌≤◌, Bool, List, length, Some, None, Ok, Option, sym, refl, ap, ◌∙◌, subst, inl, inr, ⊎_elim, arith}
 use mathlib.Core.List.{List-discrete}
 use mathlib.Core.HLevel.{Discrete, ×_discrete}
 use native.Mathlib.Decide.{ℕ_discrete}
@@ -13,7 +13,7 @@ use Rattle.rules.proofs.OneTree.{one_tree}
 use Rattle.policies.specs.Orders.{Order, Decided, Best}
 use Rattle.positions.specs.Positions.{follow_sets}
 use Rattle.sheet.specs.Changes.{Rules}
-use Rattle.sheet.specs.Questions.{at, Read, BestBy, Lowest, name_met, spans_met, sets_met, summary}
+use Rattle.sheet.specs.Questions.{at, Read, BestBy, name_met, spans_met, sets_met, summary}
 use Rattle.sheet.specs.Histories.{Question, spans, govern, sets}
 use Rattle.sheet.specs.Law.{Told, spans_told, govern_told, sets_told, SpansTold, GovernTold, SetsTold, Answered, LeavesAlike, HoldAlike, RankAlike}
 use Rattle.sheet.proofs.QuestionFacts.{seen_long}

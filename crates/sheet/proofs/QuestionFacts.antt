@@ -1,5 +1,5 @@
 -- The checks of the questions, and the rule at a place.
-use Rattle.std.proofs.Common.{◌≡◌, ℕ, ◌+◌, ◌<◌, ◌≤◌, Bool, true, false, cond, eqb, ◌↔◌, List, [], ◌∷◌, ◌++◌, map, length, get_or, take, drop, Some, None, Ok, Err, Option, Result, sym, refl, ap, ◌∙◌, subst, arith}
+use Rattle.std.proofs.Common.{◌≡◌, ℕ, ◌+◌, ◌<◌, Bool, true, false, ◌↔◌, List, [], ◌∷◌, ◌++◌, map, length, get_or, take, drop, Some, None, Ok, Err, Option, Result, sym, refl, ap, ◌∙◌, subst, arith}
 use borrow.Author.Tests.{clash}
 use Rattle.std.proofs.lemmas.List.{get_or-map, length-map}
 use Rattle.rules.specs.declared.row.Row.{Row}
@@ -7,16 +7,14 @@ use Rattle.rules.specs.declared.denial.Denial.{Denial}
 use Rattle.rules.specs.Trees.{Tree, empty, leaf, choice, sequence, star, rows, Of, leaves}
 use Rattle.rules.specs.RuleRows.{Ruled}
 use Rattle.rules.specs.Checks.{first_met}
-use Rattle.rules.specs.Denials.{number, numbered}
+use Rattle.rules.specs.Denials.{number}
 use Rattle.rules.specs.Languages.{Sight, In, seen}
-use Rattle.rules.specs.Readings.{Reading, ReadsWhole}
-use Rattle.rules.proofs.OneTree.{one_tree, ruled}
+use Rattle.rules.proofs.OneTree.{ruled}
 use Rattle.rules.proofs.ReadingFacts.{readings_exactly}
 use Rattle.positions.specs.declared.sets.Positions.{Positions}
-use Rattle.positions.specs.Positions.{nullable, first_set, last_set, follow_sets}
+use Rattle.positions.specs.Positions.{follow_sets}
 use Rattle.positions.specs.SetsOf.{SetsOf}
 use Rattle.sheet.specs.declared.held.Held.{Held}
-use Rattle.sheet.specs.declared.summary.Summary.{Summary}
 use Rattle.sheet.specs.Changes.{Rules, unless, place_met}
 use Rattle.sheet.specs.Sheets.{held_rows}
 use Rattle.sheet.specs.Questions.{at, Read, name_met, Governed, GovernAnswer, leaf_rows, summary, room_met, sets_met, SetOut, SetsAnswer}

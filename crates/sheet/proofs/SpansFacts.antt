@@ -1,5 +1,5 @@
 -- The answer to a spans, from its checks and from what the matcher says.
-use Rattle.std.proofs.Common.{◌≡◌, ℕ, ◌<◌, ◌≤◌, Bool, cond, ltb, List, ◌++◌, length, get_or, drop, Some, None, Ok, Err, Option, Result, sym, refl, ap, ◌∙◌, subst, ⊎_elim, arith}
+use Rattle.std.proofs.Common.{◌≡◌, ℕ, ◌<◌, ◌≤◌, Bool, cond, ltb, List, ◌++◌, length, get_or, drop, Some, None, Ok, Err, Option, sym, refl, ap, ◌∙◌, subst, ⊎_elim, arith}
 use Rattle.std.proofs.lemmas.List.{get_or_append_left}
 use Rattle.std.proofs.lemmas.Bool.{cases_Bool, cond-true, cond-false, ltb-false, ltb-true, lt-ltb, le-ltb}
 use Rattle.rules.specs.declared.row.Row.{Row}
@@ -15,7 +15,7 @@ use Rattle.rules.proofs.ReadingFacts.{readings_exactly, reads_length}
 use Rattle.policies.specs.Orders.{Order, Best}
 use Rattle.matcher.specs.Matching.{Fit}
 use Rattle.sheet.specs.Changes.{Rules, place_met}
-use Rattle.sheet.specs.Questions.{at, Read, BestBy, name_met, bench_met, room_met, needed, spans_met, Reported, Spanned, SpansAnswer}
+use Rattle.sheet.specs.Questions.{at, Read, name_met, bench_met, room_met, needed, spans_met, Reported, Spanned, SpansAnswer}
 use Rattle.sheet.proofs.QuestionFacts.{first_of, second_of, seen_long}
 
 -- which check is met first

@@ -1,26 +1,25 @@
 -- What the calls answer, told as the law and the relations say it.
-use Rattle.std.proofs.Common.{◌≡◌, ℕ, Bool, ◌⊎◌, ◌↔◌, List, ◌++◌, length, take, drop, Some, None, Ok, Err, Option, Result, sym, refl, ap, ◌∙◌, subst, ap₂, inl, inr, arith}
+use Rattle.std.proofs.Common.{◌≡◌, ℕ, Bool, List, length, take, drop, Some, None, Ok, Err, Option, Result, sym, refl, ap, ◌∙◌, subst, inl, inr, arith}
 use Rattle.std.proofs.lemmas.List.{take_at}
 use Rattle.rules.specs.declared.row.Row.{Row}
 use Rattle.rules.specs.declared.denial.Denial.{Denial}
-use Rattle.rules.specs.Denials.{number, numbered}
-use Rattle.rules.specs.Trees.{Tree, Of, size, leaves}
-use Rattle.rules.specs.Languages.{Sight, In, seen}
+use Rattle.rules.specs.Denials.{number}
+use Rattle.rules.specs.Trees.{Tree, Of, leaves}
+use Rattle.rules.specs.Languages.{Sight, seen}
 use Rattle.rules.specs.Readings.{Reading}
 use Rattle.rules.proofs.OneTree.{one_tree}
 use Rattle.rules.proofs.RowFacts.{length_rows}
 use Rattle.rules.proofs.ReadingFacts.{readings_exactly, reads_length}
-use Rattle.policies.specs.Orders.{Order, Best}
+use Rattle.policies.specs.Orders.{Order}
 use Rattle.policies.specs.Theorems.{Relation, Prefers}
 use Rattle.positions.specs.Positions.{follow_sets}
-use Rattle.positions.specs.Theorems.{SetsMean}
 use Rattle.positions.proofs.Meanings.{sets_mean}
 use Rattle.sheet.specs.declared.summary.Summary.{Summary}
 use Rattle.sheet.specs.Changes.{Rules}
-use Rattle.sheet.specs.Questions.{at, Read, Lowest, name_met, spans_met, sets_met, summary, Reported, Spanned, SpansAnswer, Governed, GovernAnswer, SetOut, SetsAnswer}
+use Rattle.sheet.specs.Questions.{at, Read, name_met, spans_met, sets_met, summary, Reported, Spanned, SpansAnswer, Governed, GovernAnswer, SetOut, SetsAnswer}
 use Rattle.sheet.specs.Published.{Published}
-use Rattle.sheet.specs.Histories.{Question, spans, govern, sets}
-use Rattle.sheet.specs.Law.{Told, spans_told, govern_told, sets_told, spans_result, govern_result, sets_result, SpansTold, GovernTold, SetsTold, Answered}
+use Rattle.sheet.specs.Histories.{spans, govern, sets}
+use Rattle.sheet.specs.Law.{spans_told, govern_told, sets_told, spans_result, govern_result, sets_result, SpansTold, GovernTold, SetsTold, Answered}
 use Rattle.sheet.proofs.QuestionFacts.{seen_long}
 
 -- the first entries of a report are the reading

@@ -1,10 +1,10 @@
 -- A list of calls, made one after the other.
-use Rattle.std.proofs.Common.{◌≡◌, ℕ, ◌+◌, ◌<◌, ◌≤◌, Bool, true, false, cond, not, ◌&&◌, List, [], ◌∷◌, map, length, get_or, drop, set, Some, None, Option, sym, refl, ap, ◌∙◌, subst, ⊎_elim, arith}
+use Rattle.std.proofs.Common.{◌≡◌, ℕ, ◌+◌, ◌<◌, ◌≤◌, Bool, true, false, cond, not, ◌&&◌, List, [], ◌∷◌, map, length, get_or, drop, Some, None, sym, refl, ap, ◌∙◌, ⊎_elim, arith}
 use Rattle.std.proofs.lemmas.List.{drop_more, drop_all, drop-drop}
 use Rattle.std.proofs.lemmas.Bool.{and_parts, cases_Bool, cond-true, cond-false}
 use Rattle.sheet.specs.declared.history.Call.{Call as Made}
 use Rattle.sheet.specs.declared.history.Sheet.{Sheet}
-use Rattle.sheet.specs.Histories.{Call, allows, open_then, held_then, leads_locked, held_from}
+use Rattle.sheet.specs.Histories.{allows, open_then, held_then, leads_locked, held_from}
 use Rattle.sheet.specs.Replays.{meant, is_open, rules_in, alphabet_in, policy_in}
 
 no_some : {X : Type 0} (x : X) → Some x ≡ None → ⊥

@@ -1,12 +1,12 @@
 -- The law over histories: what a question is told after any list of calls. Assumes nothing.
-use Rattle.std.specs.Prelude.{◌≡◌, ℕ, ◌<◌, ◌≤◌, Bool, true, ◌⊎◌, ◌↔◌, List, [], ◌∷◌, length, take, Some, None, Ok, Err, Option, Result}
+use Rattle.std.specs.Prelude.{◌≡◌, ℕ, ◌<◌, ◌≤◌, Bool, ◌⊎◌, ◌↔◌, List, [], ◌∷◌, length, take, Some, None, Ok, Err, Option, Result}
 use Rattle.rules.specs.declared.row.Row.{Row}
-use Rattle.rules.specs.Trees.{Tree, Of, rows, leaves}
+use Rattle.rules.specs.Trees.{Tree, Of}
 use Rattle.rules.specs.declared.denial.Denial.{Denial}
 use Rattle.rules.specs.Denials.{number, numbered}
 use Rattle.rules.specs.Languages.{Sight, seen}
 use Rattle.rules.specs.Readings.{Reading, ReadsWhole}
-use Rattle.policies.specs.Orders.{Order, Decided}
+use Rattle.policies.specs.Orders.{Order}
 use Rattle.positions.specs.Positions.{follow_sets}
 use Rattle.sheet.specs.declared.summary.Summary.{Summary}
 use Rattle.sheet.specs.Changes.{Rules}

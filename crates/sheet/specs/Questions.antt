@@ -1,11 +1,11 @@
 -- What a locked sheet answers to its three questions. Assumes nothing.
-use Rattle.std.specs.Prelude.{◌≡◌, ℕ, ◌+◌, ◌*◌, ◌<◌, Bool, cond, List, [], ◌∷◌, ◌++◌, length, drop, Some, None, Ok, Err, Option, Result, ◌==◌, nat_lt, slice_index_or}
+use Rattle.std.specs.Prelude.{◌≡◌, ℕ, ◌+◌, ◌*◌, ◌<◌, cond, List, [], ◌∷◌, ◌++◌, length, drop, Some, None, Ok, Err, Option, Result, ◌==◌, nat_lt, slice_index_or}
 use Rattle.rules.specs.declared.row.Row.{Row}
 use Rattle.rules.specs.declared.denial.Denial.{Denial}
 use Rattle.rules.specs.Trees.{Tree, Of, leaves}
 use Rattle.rules.specs.Checks.{first_met}
 use Rattle.rules.specs.Denials.{number, numbered}
-use Rattle.rules.specs.Languages.{Sight, In}
+use Rattle.rules.specs.Languages.{Sight}
 use Rattle.rules.specs.Readings.{Reading, ReadsWhole, report_row}
 use Rattle.policies.specs.Orders.{Order, Best}
 use Rattle.positions.specs.Positions.{nullable, first_set, last_set, follow_sets}

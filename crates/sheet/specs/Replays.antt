@@ -13,7 +13,7 @@ use Rattle.sheet.specs.declared.history.Replayed.{Replayed}
 use Rattle.sheet.specs.declared.history.Replayed.TheVariants.{NotAllowed, Answered as AnsweredBy}
 use Rattle.sheet.specs.Changes.{Rules}
 use Rattle.sheet.specs.Histories.{Question, spans, govern, sets, Call, add, drop, lock, unlock, ask, leads_locked, held_from}
-use Rattle.sheet.specs.Law.{Told, spans_told, govern_told, sets_told, spans_result, govern_result, sets_result, Law}
+use Rattle.sheet.specs.Law.{Told, spans_result, govern_result, sets_result, Law}
 use Rattle.sheet.specs.Questions.{at}
 use Rattle.sheet.specs.Sheets.{holding, locked}
 

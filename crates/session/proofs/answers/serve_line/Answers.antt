@@ -1,7 +1,4 @@
-use Rattle.std.proofs.Common.{◌≡◌, ℕ, List, sym, subst, arith}
-use Rattle.session.specs.declared.line.State.{State}
-use Rattle.session.specs.declared.line.State.TheVariants.{Awaiting, Serving}
-use Rattle.session.specs.Served.{Answers, policy_comes, rule_comes}
+use Rattle.std.proofs.Common.{arith}
 use Rattle.session.proofs.Prints.{silent, passed_on, asks, awaits, declines, policy_or, two_kinds, comes, adds}
 use Rattle.session.proofs.answers.serve_line.Goals as goal
 
@@ -17,8 +14,8 @@ returns-in-Awaiting-Name c = asks _ _ _ _ _ (awaits c.in-Awaiting-Name.is-0 (pol
 pub returns-in-Awaiting-Other : goal.returns-in-Awaiting-Other
 returns-in-Awaiting-Other c = asks _ _ _ _ _ (awaits c.in-Awaiting-Other.is-0 c.in-Awaiting-Other.ensures.0) c.question-in-Awaiting-Other.ensures
 
-pub returns-in-ok-serve-rule : goal.returns-in-ok-serve-rule
-returns-in-ok-serve-rule c = passed_on (λ p h. adds c.in-Serving-Rule.is-0 c.in-Serving-Rule.ensures h) c.in-ok-serve-rule.ensures
+pub returns-in_ok-serve_rule-in-Serving-Rule : goal.returns-in_ok-serve_rule-in-Serving-Rule
+returns-in_ok-serve_rule-in-Serving-Rule c = passed_on (λ p h. adds c.in-Serving-Rule.is-0 c.in-Serving-Rule.ensures h) c.in_ok-serve_rule-in-Serving-Rule.ensures
 
 pub returns-in-Serving-Name : goal.returns-in-Serving-Name
 returns-in-Serving-Name c = asks _ _ _ _ _ (declines c.in-Serving-Name.is-0 (λ x e. omega (arith, two_kinds c.in-Serving-Name.ensures e))) c.question-in-Serving-Name.ensures

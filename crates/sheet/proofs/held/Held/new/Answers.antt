@@ -1,4 +1,4 @@
 use Rattle.sheet.proofs.held.Held.new.Goals as goal
 
-pub invariant-of-result : goal.invariant-of-result
-invariant-of-result c = (∣ c.of-sets.ensures ∣₁, tt)
+pub invariant_of-result : goal.invariant_of-result
+invariant_of-result c = record { of = ∣ c.of-sets.ensures ∣₁ }

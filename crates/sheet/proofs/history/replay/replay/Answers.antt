@@ -1,4 +1,4 @@
-use Rattle.std.proofs.Common.{◌≡◌, map, sym, ap, ◌∙◌}
+use Rattle.std.proofs.Common.{map, sym, ◌∙◌}
 use Rattle.sheet.specs.Replays.{asked, meant}
 use Rattle.sheet.specs.Sheets.{holding, locked}
 use Rattle.sheet.proofs.Lawful.{lawful_after}
@@ -6,7 +6,7 @@ use Rattle.sheet.proofs.history.replay.replay.Goals as goal
 
 pub returns : goal.returns
 returns g c = (
-  sym c.lead-locked.ensures ∙ c.if-not-lead-locked.false,
+  sym c.lead_locked.ensures ∙ c.if-not-lead_locked.false,
   c.run-sheet.ensures.alphabet,
   c.run-sheet.ensures.policy,
   c.run-sheet.ensures.rules,

@@ -1,7 +1,7 @@
-use Rattle.std.proofs.Common.{◌≡◌, ◌+◌, ◌<◌, not, length, get_or, drop, sym, refl, ap, ◌∙◌, arith}
+use Rattle.std.proofs.Common.{◌+◌, ◌<◌, not, length, get_or, sym, ap, ◌∙◌, arith}
 use borrow.Author.Tests.{clash}
 use Rattle.std.proofs.lemmas.List.{drop_more, drop-set-lt}
-use Rattle.sheet.specs.declared.history.Sheet.TheVariants.{Open, Locked}
+use Rattle.sheet.specs.declared.history.Sheet.TheVariants.{Open}
 use Rattle.sheet.specs.Replays.{is_open, rules_in, alphabet_in, policy_in}
 use Rattle.sheet.proofs.Turns.{may, again, shut, ended}
 use Rattle.sheet.proofs.history.replay.run.Goals as goal

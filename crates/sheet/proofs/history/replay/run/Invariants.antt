@@ -1,4 +1,3 @@
-use Rattle.sheet.specs.declared.history.Sheet.TheVariants.{Open}
 use Rattle.sheet.proofs.Turns.{SoFar}
 use Rattle.sheet.proofs.history.replay.run.Given as goal
 

@@ -1,4 +1,4 @@
-use Rattle.std.proofs.Common.{◌≡◌, length, vec_items, sym, ◌∙◌, arith}
+use Rattle.std.proofs.Common.{◌≡◌, length, vec_items, ◌∙◌, arith}
 use Rattle.sheet.specs.Sheets.{locked}
 use Rattle.sheet.proofs.ChangeFacts.{many_held, not_held, is_held}
 use Rattle.sheet.proofs.QuestionFacts.{at_held}

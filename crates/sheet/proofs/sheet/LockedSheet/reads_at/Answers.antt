@@ -1,8 +1,8 @@
-use Rattle.std.proofs.Common.{◌≡◌, List, vec_items, sym, ◌∙◌, subst, arith}
+use Rattle.std.proofs.Common.{List, vec_items, sym, subst, arith}
 use Rattle.rules.specs.declared.row.Row.{Row}
 use Rattle.rules.specs.Languages.{seen}
 use Rattle.sheet.specs.Questions.{Read}
-use Rattle.sheet.specs.Sheets.{held_rows, locked}
+use Rattle.sheet.specs.Sheets.{held_rows}
 use Rattle.sheet.proofs.QuestionFacts.{at_held, held_ruled, test_yes, test_no}
 use Rattle.sheet.proofs.sheet.LockedSheet.reads_at.Goals as goal
 

@@ -9,6 +9,6 @@ returns g c =
     let above = g.P.Policy.above c.args.self.now.policy in
     let rules = locked c.args.self.now in
     record {
-      answer = c.sets-at.ensures;
-      law = λ past e. lawful_here (g.A.Alphabet.admitted c.args.self.now.alphabet) holds above past rules e _ _ (sets_tells holds above rules c.args.place _ _ c.sets-at.result c.sets-at.ensures) (g.met.P.Policy.decided c.args.self.now.policy);
+      answer = c.sets_at.ensures;
+      law = λ past e. lawful_here (g.A.Alphabet.admitted c.args.self.now.alphabet) holds above past rules e _ _ (sets_tells holds above rules c.args.place _ _ c.sets_at.result c.sets_at.ensures) (g.met.P.Policy.decided c.args.self.now.policy);
     }

@@ -1,15 +1,9 @@
-use Rattle.std.proofs.Common.{◌≡◌, length, sym, subst}
 use Rattle.rules.specs.Languages.{seen}
-use Rattle.policies.specs.Orders.{Order}
 use Rattle.policies.proofs.FirstOrder.{first_prefers}
 use Rattle.policies.proofs.PosixOrder.{posix_prefers}
 use Rattle.policies.specs.FirstLongest.{First}
 use Rattle.policies.specs.Keys.{first_above, posix_above}
 use Rattle.policies.specs.Posix.{Posix}
-use Rattle.sheet.specs.Changes.{Rules}
-use Rattle.sheet.specs.Histories.{spans}
-use Rattle.sheet.specs.Law.{Answered, spans_result}
-use Rattle.sheet.specs.Questions.{at, SpansAnswer}
 use Rattle.sheet.specs.Sheets.{locked}
 use Rattle.sheet.proofs.Lawful.{lawful_here}
 use Rattle.sheet.proofs.Tellings.{spans_tells, published_by}
@@ -20,10 +14,10 @@ returns g c =
     let holds = g.A.Alphabet.held c.args.self.now.alphabet in
     let above = g.P.Policy.above c.args.self.now.policy in
     let rules = locked c.args.self.now in
-    let h = c.best-at.ensures in
+    let h = c.best_at.ensures in
     record {
       answer = h;
-      posix = λ e m. published_by above posix_above Posix posix_prefers e (seen holds c.args.name.now) rules c.args.place _ _ _ _ c.best-at.result h m;
-      first = λ e m. published_by above first_above First first_prefers e (seen holds c.args.name.now) rules c.args.place _ _ _ _ c.best-at.result h m;
-      law = λ past e. lawful_here (g.A.Alphabet.admitted c.args.self.now.alphabet) holds above past rules e _ _ (spans_tells holds above rules c.args.place c.args.name.now _ _ _ _ c.best-at.result h) (g.met.P.Policy.decided c.args.self.now.policy);
+      posix = λ e m. published_by above posix_above Posix posix_prefers e (seen holds c.args.name.now) rules c.args.place _ _ _ _ c.best_at.result h m;
+      first = λ e m. published_by above first_above First first_prefers e (seen holds c.args.name.now) rules c.args.place _ _ _ _ c.best_at.result h m;
+      law = λ past e. lawful_here (g.A.Alphabet.admitted c.args.self.now.alphabet) holds above past rules e _ _ (spans_tells holds above rules c.args.place c.args.name.now _ _ _ _ c.best_at.result h) (g.met.P.Policy.decided c.args.self.now.policy);
     }

@@ -1,4 +1,4 @@
-use Rattle.std.proofs.Common.{◌≡◌, length, vec_items, sym, refl, ap, ◌∙◌, arith}
+use Rattle.std.proofs.Common.{◌≡◌, length, vec_items, refl, ◌∙◌, arith}
 use Rattle.sheet.specs.Sheets.{holding}
 use Rattle.sheet.proofs.ChangeFacts.{many_held, not_held, is_held, drop_answer_by, dropped_by, one_less}
 use Rattle.sheet.proofs.sheet.OpenSheet.drop.Goals as goal
