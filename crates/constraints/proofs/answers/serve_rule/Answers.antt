@@ -1,20 +1,20 @@
 use Rattle.std.proofs.Common.{◌≡◌, vec_items, sym, refl, ap, ◌∙◌, subst, append-nil}
 use Rattle.constraints.proofs.Prints.{rule_prints, added_to}
 use Rattle.constraints.proofs.answers.serve_rule.Goals as goal
-use Rattle.constraints.proofs.answers.serve_rule.Goals.{in-Err+in-ok-print-denial, in-default}
+use Rattle.constraints.proofs.answers.serve_rule.Goals.{in-Err+in_ok-print_denial, in_default}
 
 pub returns : goal.returns
 returns c bench =
-    let policy : c.lock-sheet.result.policy ≡ c.args.sheet.policy = c.lock-sheet.ensures.2 ∙ c.add-text-added.ensures.policy ∙ c.unlock-open.ensures.2 in
+    let policy : c.lock-sheet.result.policy ≡ c.args.sheet.policy = c.lock-sheet.ensures.2 ∙ c.add_text-added.ensures.policy ∙ c.unlock-open.ensures.2 in
     elim c.match-added.branch [
-      | in-Err+in-ok-print-denial w ↦ record {
+      | in-Err+in_ok-print_denial w ↦ record {
         printed = _;
         allowed = rule_prints policy (added_to c.unlock-open.ensures.0 c.lock-sheet.ensures.0 w.in-Err.ensures.answer) refl;
-        appended = ap vec_items w.out-is ∙ w.in-ok-print-denial.ensures;
+        appended = ap vec_items w.out-is ∙ w.in_ok-print_denial.ensures;
       }
-      | in-default w ↦ record {
+      | in_default w ↦ record {
         printed = _;
-        allowed = rule_prints policy (added_to c.unlock-open.ensures.0 c.lock-sheet.ensures.0 w.in-default.ensures.answer) refl;
+        allowed = rule_prints policy (added_to c.unlock-open.ensures.0 c.lock-sheet.ensures.0 w.in_default.ensures.answer) refl;
         appended = ap vec_items w.out-is ∙ sym (append-nil (vec_items c.args.out.now));
       }
     ]
