@@ -5,7 +5,9 @@ use policies::{FirstLongest, Opposite, Policy, Posix};
 use rules::alphabet::Bytes;
 use rules::row::{CHOICE, EMPTY, LEAF, SEQUENCE, STAR};
 use rules::{Row, Rule};
-use std::test::*;
+use std::alloc::Global;
+use std::process::Abort;
+use std::test::Fail;
 
 // An entry that no reading has: what a report holds before.
 const BEFORE: Option<(usize, usize)> = Some((9, 8));
@@ -26,6 +28,7 @@ fn shows(report: &[Option<(usize, usize)>], reading: &[Option<(usize, usize)>]) 
 }
 
 fn agrees<P: Policy>(
+    rt: &impl Abort,
     policy: &P,
     keys: Keys,
     opposite: bool,
@@ -38,29 +41,29 @@ fn agrees<P: Policy>(
     let matched = best_reading(&Bytes, policy, rule, name, &mut bench, &mut report);
     match all.get(best(keys, opposite, rule.rows(), all)) {
         Some(reading) => {
-            assert!(matched == Matched::Found);
-            assert!(shows(&report, reading));
+            assert!(rt; matched == Matched::Found);
+            assert!(rt; shows(&report, reading));
             Ok(())
         }
         None => {
-            assert!(matched == Matched::NotRead);
-            assert!(shows(&report, &[]));
+            assert!(rt; matched == Matched::NotRead);
+            assert!(rt; shows(&report, &[]));
             Ok(())
         }
     }
 }
 
 // Each of four policies finds what the list of all readings gives.
-fn all_agree(rt: &HostRuntime, rule: &Rule, name: &[u8]) -> Result<(), Fail> {
-    let all = readings(rt.alloc(), rule, name)?;
-    agrees(&Posix, Keys::EveryNode, false, rule, name, &all)?;
-    agrees(&FirstLongest, Keys::StarsOnly, false, rule, name, &all)?;
+fn all_agree(rt: &impl Abort, heap: Global, rule: &Rule, name: &[u8]) -> Result<(), Fail> {
+    let all = readings(heap, rule, name)?;
+    agrees(rt, &Posix, Keys::EveryNode, false, rule, name, &all)?;
+    agrees(rt, &FirstLongest, Keys::StarsOnly, false, rule, name, &all)?;
     let least = Opposite { policy: Posix };
-    agrees(&least, Keys::EveryNode, true, rule, name, &all)?;
+    agrees(rt, &least, Keys::EveryNode, true, rule, name, &all)?;
     let least = Opposite {
         policy: FirstLongest,
     };
-    agrees(&least, Keys::StarsOnly, true, rule, name, &all)
+    agrees(rt, &least, Keys::StarsOnly, true, rule, name, &all)
 }
 
 // Four letters by the digits of a number, 0 for a and 1 for b.
@@ -77,17 +80,17 @@ fn letters(number: usize) -> [u8; 4] {
 }
 
 // The rule agrees on every name of a and b with so many symbols, at most four.
-fn names_agree(rt: &HostRuntime, rule: &Rule, symbols: usize) -> Result<(), Fail> {
+fn names_agree(rt: &impl Abort, heap: Global, rule: &Rule, symbols: usize) -> Result<(), Fail> {
     for number in 0..16 {
         let name = letters(number);
-        all_agree(rt, rule, &name[..symbols.min(4)])?;
+        all_agree(rt, heap, rule, &name[..symbols.min(4)])?;
     }
     Ok(())
 }
 
-fn rule_agrees(rt: &HostRuntime, rule: &Rule) -> Result<(), Fail> {
+fn rule_agrees(rt: &impl Abort, heap: Global, rule: &Rule) -> Result<(), Fail> {
     for symbols in 0..5 {
-        names_agree(rt, rule, symbols)?;
+        names_agree(rt, heap, rule, symbols)?;
     }
     Ok(())
 }
@@ -115,11 +118,11 @@ fn rows_of(number: usize) -> [Row; 5] {
 }
 
 // Every rule of so many rows agrees; the numbers below `count` give all of their rows.
-fn rules_agree(rt: &HostRuntime, count: usize, nodes: usize) -> Result<(), Fail> {
+fn rules_agree(rt: &impl Abort, heap: Global, count: usize, nodes: usize) -> Result<(), Fail> {
     for number in 0..count {
         let rows = rows_of(number);
         match Rule::checked(&Bytes, &rows[..nodes.min(5)]) {
-            Ok(rule) => rule_agrees(rt, &rule)?,
+            Ok(rule) => rule_agrees(rt, heap, &rule)?,
             Err(_) => {}
         }
     }
@@ -128,11 +131,11 @@ fn rules_agree(rt: &HostRuntime, count: usize, nodes: usize) -> Result<(), Fail>
 
 #[test]
 fn every_small_rule(rt: HostRuntime) -> Result<(), Fail> {
-    rules_agree(&rt, 6, 1)?;
-    rules_agree(&rt, 36, 2)?;
-    rules_agree(&rt, 216, 3)?;
-    rules_agree(&rt, 1296, 4)?;
-    rules_agree(&rt, 7776, 5)
+    rules_agree(&rt, rt.alloc(), 6, 1)?;
+    rules_agree(&rt, rt.alloc(), 36, 2)?;
+    rules_agree(&rt, rt.alloc(), 216, 3)?;
+    rules_agree(&rt, rt.alloc(), 1296, 4)?;
+    rules_agree(&rt, rt.alloc(), 7776, 5)
 }
 
 // The rule (a|ab)(b|): on ab the POSIX policy and its opposite read differently.
@@ -151,7 +154,7 @@ fn policies_differ(rt: HostRuntime) -> Result<(), Fail> {
     ];
     match Rule::checked(&Bytes, &rows) {
         Ok(rule) => {
-            rule_agrees(&rt, &rule)?;
+            rule_agrees(&rt, rt.alloc(), &rule)?;
             let all = readings(rt.alloc(), &rule, b"ab")?;
             assert!(rt; all.len() == 2);
             assert!(rt;

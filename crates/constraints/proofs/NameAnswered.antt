@@ -1,12 +1,12 @@
 -- What govern and spans answer to a name, put together.
-use Rattle.std.proofs.Common.{◌≡◌, ℕ, ◌<◌, ◌≤◌, Bool, true, false, cond, ltb, ◌⊎◌, List, [], ◌∷◌, ◌++◌, length, drop, replicate, Some, None, Ok, Err, decimal, Option, Result, sym, refl, ap, ◌∙◌, subst, inl, inr, ⊎_elim, arith, ltb-false, ltb-true, lt-ltb, MatchResult}
+use Rattle.std.proofs.Common.{◌≡◌, ℕ, ◌<◌, ◌≤◌, Bool, true, false, cond, ltb, ◌⊎◌, List, [], ◌∷◌, ◌++◌, length, replicate, Some, None, Ok, Err, decimal, Option, Result, sym, refl, ap, subst, inl, inr, ⊎_elim, arith, ltb-false, ltb-true, lt-ltb, MatchResult}
 use Rattle.std.proofs.lemmas.Bool.{cond-true}
 use Rattle.rules.specs.declared.denial.Denial.{Denial}
-use Rattle.rules.specs.Denials.{number, numbered}
+use Rattle.rules.specs.Denials.{number}
 use Rattle.rules.specs.Readings.{Reading}
 use Rattle.policies.specs.Orders.{Order}
-use Rattle.sheet.specs.Changes.{Rules, place_met}
-use Rattle.sheet.specs.Questions.{at, Lowest, needed, name_met, bench_met, room_met, spans_met, Spanned, SpansAnswer, Governed, GovernAnswer, BestBy}
+use Rattle.sheet.specs.Changes.{Rules}
+use Rattle.sheet.specs.Questions.{at, Lowest, needed, spans_met, Spanned, SpansAnswer, Governed, GovernAnswer}
 use Rattle.sheet.proofs.QuestionFacts.{seen_long}
 use Rattle.sheet.proofs.SpansFacts.{seen_met, fit_met, bench_first, name_fits}
 use Rattle.constraints.specs.Printed.{name_said}

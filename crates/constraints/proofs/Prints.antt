@@ -1,5 +1,5 @@
 -- What is appended to the output, and which line is served how.
-use Rattle.std.proofs.Common.{◌≡◌, ℕ, List, [], ◌∷◌, ◌++◌, Ok, Err, Result, sym, refl, ap, ◌∙◌, subst, append-nil, arith, MatchResult}
+use Rattle.std.proofs.Common.{◌≡◌, ℕ, List, [], ◌∷◌, ◌++◌, Ok, Err, Result, sym, subst, append-nil, arith, MatchResult}
 use Rattle.policies.specs.Named.{named_above}
 use Rattle.policies.specs.declared.named.NamedPolicy.{NamedPolicy}
 use Rattle.policies.specs.declared.named.NamedPolicy.TheVariants.{Posix, FirstLongest}
@@ -8,7 +8,7 @@ use Rattle.constraints.specs.declared.line.State.{State}
 use Rattle.constraints.specs.declared.line.State.TheVariants.{Awaiting, Serving}
 use Rattle.constraints.specs.Kinds.{Names, NamesNone, rule_line, name_line}
 use Rattle.constraints.specs.NameLines.{SaysAnswer}
-use Rattle.constraints.specs.Printed.{asked, denied, rule_said}
+use Rattle.constraints.specs.Printed.{asked, rule_said}
 use Rattle.constraints.specs.Served.{Appends, TextAdded, Answers, policy_comes, policy_awaited, rule_comes, name_comes, not_served}
 use Rattle.constraints.proofs.Shapes.{posix_is, first_is, two_from}
 

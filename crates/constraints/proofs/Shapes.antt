@@ -1,5 +1,5 @@
 -- Lines, as the patterns take them apart.
-use Rattle.std.proofs.Common.{◌≡◌, ℕ, ◌-◌, ◌<◌, ◌⊎◌, List, [], ◌∷◌, length, get_or, take, drop, codes, sym, refl, ap, ◌∙◌, ap₂, inl, inr, le_refl, arith, length-drop, take_all}
+use Rattle.std.proofs.Common.{◌≡◌, ℕ, ◌-◌, ◌<◌, List, [], ◌∷◌, length, get_or, take, drop, codes, ap, arith, take_all}
 
 -- a line of five bytes
 pub record Five (l : List ℕ) (a b c d e : ℕ) : Type 0 where

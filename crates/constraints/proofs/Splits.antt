@@ -1,5 +1,5 @@
 -- The first line of an input, and the lines behind it.
-use Rattle.std.proofs.Common.{◌≡◌, ℕ, zero, suc, ◌+◌, ◌-◌, ◌<◌, ◌≤◌, true, false, cond, eqb, List, [], ◌∷◌, length, get_or, take, drop, sym, refl, ap, ◌∙◌, subst, arith, length-drop, drop_of_length-le, take_all, eq-eqb, ne_eqb}
+use Rattle.std.proofs.Common.{◌≡◌, ℕ, zero, suc, ◌+◌, ◌-◌, ◌<◌, false, eqb, List, [], ◌∷◌, length, get_or, take, drop, ap, ◌∙◌, subst, arith, length-drop, drop_of_length-le, take_all, eq-eqb, ne_eqb}
 use lib.Seq.{take-nil}
 use Rattle.constraints.specs.Lines.{onto, lines}
 

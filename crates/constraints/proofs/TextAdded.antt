@@ -1,5 +1,5 @@
 -- A text that is read is added as the rows of its tree.
-use Rattle.std.proofs.Common.{◌≡◌, ℕ, ◌-◌, ◌≤◌, List, ◌++◌, length, take, drop, Result, sym, ap, ◌∙◌, subst, arith}
+use Rattle.std.proofs.Common.{◌≡◌, ℕ, ◌-◌, List, ◌++◌, length, take, drop, Result, sym, ap, ◌∙◌, subst, arith}
 use lib.Seq.{take-append_seam}
 use Rattle.rules.specs.declared.row.Row.{Row}
 use Rattle.rules.specs.Alphabets.{bytes_admitted}

@@ -1,5 +1,5 @@
 -- The lines in turn, as the loop takes them.
-use Rattle.std.proofs.Common.{◌≡◌, ℕ, ◌-◌, ◌<◌, ◌≤◌, min, List, [], ◌∷◌, ◌++◌, length, take, sym, refl, ap, ◌∙◌, subst, append_assoc, append-nil, arith, take_all}
+use Rattle.std.proofs.Common.{◌≡◌, ℕ, ◌-◌, ◌≤◌, min, List, [], ◌∷◌, ◌++◌, length, take, sym, refl, ap, ◌∙◌, subst, append_assoc, append-nil, arith, take_all}
 use native.Mathlib.Decide.{dec_le}
 use Rattle.policies.specs.declared.named.NamedPolicy.{NamedPolicy}
 use Rattle.policies.specs.declared.named.NamedPolicy.TheVariants.{Posix}

@@ -1,5 +1,5 @@
 -- What netread does with its lines: which policy is in force, which rules are held, and what is printed. Assumes nothing.
-use Rattle.std.specs.Prelude.{◌≡◌, ℕ, ◌<◌, ◌≤◌, Bool, List, [], ◌∷◌, ◌++◌, length, Ok, Err, Result, ◌≢◌}
+use Rattle.std.specs.Prelude.{◌≡◌, ℕ, ◌<◌, ◌≤◌, List, [], ◌∷◌, ◌++◌, length, Ok, Err, Result, ◌≢◌}
 use Rattle.rules.specs.Alphabets.{bytes_admitted, bytes_held, folded}
 use Rattle.rules.specs.Languages.{Sight, seen}
 use Rattle.rules.specs.Readings.{Reading}

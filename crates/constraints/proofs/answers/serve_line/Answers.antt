@@ -1,5 +1,4 @@
-use Rattle.std.proofs.Common.{arith}
-use Rattle.constraints.proofs.Prints.{silent, asks, awaits, declines, policy_or, two_kinds, comes, as_served, name_prints}
+use Rattle.constraints.proofs.Prints.{silent, asks, awaits, declines, policy_or, comes, as_served, name_prints}
 use Rattle.constraints.proofs.answers.serve_line.Goals as goal
 
 pub returns-in_ok-sheet-in-Awaiting-Policy : goal.returns-in_ok-sheet-in-Awaiting-Policy

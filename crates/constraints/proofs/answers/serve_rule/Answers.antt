@@ -1,4 +1,4 @@
-use Rattle.std.proofs.Common.{◌≡◌, vec_items, sym, refl, ap, ◌∙◌, subst, append-nil}
+use Rattle.std.proofs.Common.{◌≡◌, vec_items, sym, refl, ap, ◌∙◌, append-nil}
 use Rattle.constraints.proofs.Prints.{rule_prints, added_to}
 use Rattle.constraints.proofs.answers.serve_rule.Goals as goal
 use Rattle.constraints.proofs.answers.serve_rule.Goals.{in-Err+in_ok-print_denial, in_default}

@@ -1,4 +1,4 @@
-use Rattle.std.proofs.Common.{◌≡◌, ℕ, List, [], ◌∷◌, ◌++◌, vec_items, decimal, sym, ap, ◌∙◌, append-nil, arith}
+use Rattle.std.proofs.Common.{ℕ, List, [], ◌∷◌, ◌++◌, vec_items, decimal, sym, ap, ◌∙◌, append-nil, arith}
 use Rattle.constraints.specs.Printed.{entries_said}
 use Rattle.constraints.proofs.Said.{entry_added, line_said}
 use Rattle.constraints.proofs.printing.reading_line.Goals as goal
