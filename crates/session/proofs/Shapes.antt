@@ -10,15 +10,6 @@ pub record Five (l : List ℕ) (a b c d e : ℕ) : Type 0 where
   pub fourth : get_or l 3 0 ≡ d
   pub fifth : get_or l 4 0 ≡ e
 
-pub five_is : (l : List ℕ) {a b c d e : ℕ} → Five l a b c d e → l ≡ a ∷ b ∷ c ∷ d ∷ e ∷ []
-five_is [] h = absurd (omega (arith, h.long))
-five_is (x ∷ []) h = absurd (omega (arith, h.long))
-five_is (x ∷ y ∷ []) h = absurd (omega (arith, h.long))
-five_is (x ∷ y ∷ z ∷ []) h = absurd (omega (arith, h.long))
-five_is (x ∷ y ∷ z ∷ u ∷ []) h = absurd (omega (arith, h.long))
-five_is (x ∷ y ∷ z ∷ u ∷ v ∷ []) h = rw (h.first, h.second, h.third, h.fourth, h.fifth)
-five_is (x ∷ y ∷ z ∷ u ∷ v ∷ w ∷ l) h = absurd (omega (arith, h.long))
-
 pub posix_is : {l : List ℕ} → l ≡ codes "posix" → Five l 112 111 115 105 120
 posix_is e = record { long = ap length e; first = ap (λ (x : List ℕ). get_or x 0 0) e; second = ap (λ (x : List ℕ). get_or x 1 0) e; third = ap (λ (x : List ℕ). get_or x 2 0) e; fourth = ap (λ (x : List ℕ). get_or x 3 0) e; fifth = ap (λ (x : List ℕ). get_or x 4 0) e }
 
