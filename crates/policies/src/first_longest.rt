@@ -1,5 +1,4 @@
 ghost use Rattle.policies.specs.Keys.{first_key, first_above};
-ghost use Rattle.std.proofs.Common.{rules};
 ghost use Rattle.policies.specs.KeyFacts.{first_faithful};
 ghost use Rattle.policies.specs.KeyOrder;
 
@@ -16,7 +15,7 @@ pub struct FirstLongest;
 impl Keyed for FirstLongest {
     ghost key = { λ _. first_key };
 
-    ghost faithful = { Prim.search rules };
+    ghost faithful = { λ _. first_faithful };
 
     fn compare(&self, kind: u8, first: Option<usize>, second: Option<usize>) -> Ordering {
         if kind == STAR {

@@ -1,5 +1,4 @@
 ghost use Rattle.policies.specs.Keys.{posix_key, posix_above};
-ghost use Rattle.std.proofs.Common.{rules};
 ghost use Rattle.policies.specs.KeyFacts.{posix_faithful};
 ghost use Rattle.policies.specs.KeyOrder;
 
@@ -15,7 +14,7 @@ pub struct Posix;
 impl Keyed for Posix {
     ghost key = { λ _. posix_key };
 
-    ghost faithful = { Prim.search rules };
+    ghost faithful = { λ _. posix_faithful };
 
     fn compare(&self, _kind: u8, first: Option<usize>, second: Option<usize>) -> Ordering {
         first.cmp(&second)
