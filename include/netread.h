@@ -13,7 +13,7 @@ extern "C" {
 #define NETREAD_NO_MEMORY SIZE_MAX
 
 /*
- * Serves the lines of the input (its first 65,536 bytes) and writes what netread prints for them to the front of the output.
+ * Serves the lines of the input (its first 65,536 bytes) and writes what they print to the front of the output.
  * Returns how many bytes that is. If the output has fewer, nothing is written: call again with as many.
  * Neither pointer may be null, even where its length is 0, and the two must not overlap. Nothing is kept between calls.
  */

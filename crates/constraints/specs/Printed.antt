@@ -1,4 +1,4 @@
--- What netread prints, byte by byte. Assumes nothing.
+-- What the lines of a constraint file print, byte by byte. Assumes nothing.
 use Rattle.std.specs.Prelude.{ℕ, suc, cond, List, [], ◌∷◌, ◌++◌, Some, None, Ok, Err, decimal, Option, Result, ◌==◌}
 use Rattle.rules.specs.Readings.{Reading}
 

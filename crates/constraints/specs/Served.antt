@@ -1,4 +1,4 @@
--- What netread does with its lines: which policy is in force, which rules are held, and what is printed. Assumes nothing.
+-- What the lines of a constraint file do: which policy is in force, which rules are held, and what is printed. Assumes nothing.
 use Rattle.std.specs.Prelude.{◌≡◌, ℕ, ◌<◌, ◌≤◌, List, [], ◌∷◌, ◌++◌, length, Ok, Err, Result, ◌≢◌}
 use Rattle.rules.specs.Alphabets.{bytes_admitted, bytes_held, folded}
 use Rattle.rules.specs.Languages.{Sight, seen}
@@ -58,6 +58,6 @@ pub data Session (bench : ℕ) : State → NamedPolicy → Rules → List (List 
   session_goes : {s s' : State} {q q' : NamedPolicy} {rules rules' : Rules} {l p more : List ℕ} {ls : List (List ℕ)}
       → Answers bench s q rules l s' q' rules' p → Session bench s' q' rules' ls more → Session bench s q rules (l ∷ ls) (p ++ more)
 
--- netread: no policy has come, no rule is held, and the bench has 65,536 bytes; which policy stands before one is named does not matter
-abbrev pub Netread : List (List ℕ) → List ℕ → Type 0
-Netread ls printed = Session 65536 Awaiting Posix [] ls printed
+-- a whole file: no policy has come, no rule is held, and the bench has 65,536 bytes; which policy stands before one is named does not matter
+abbrev pub FileSession : List (List ℕ) → List ℕ → Type 0
+FileSession ls printed = Session 65536 Awaiting Posix [] ls printed

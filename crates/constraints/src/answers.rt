@@ -3,7 +3,7 @@ ghost use Rattle.sheet.specs.Sheets.{locked};
 ghost use Rattle.constraints.specs.Kinds.{rule_line};
 ghost use Rattle.constraints.specs.Lines.{lines};
 ghost use Rattle.constraints.specs.Printed.{asked};
-ghost use Rattle.constraints.specs.Served.{Answers, Appends, Netread};
+ghost use Rattle.constraints.specs.Served.{Answers, Appends, FileSession};
 ghost use Rattle.constraints.specs.declared.line.State.TheVariants.{Serving};
 
 use crate::adding::add_text;
@@ -95,7 +95,7 @@ pub fn serve_line(
 
 // Serves the input's lines in turn, and gives all that they print.
 pub fn serve(heap: Global, input: &[u8]) -> Result<Vec<u8>, AllocError>
-    ensures { IfOk result (λ v. Netread (lines (take 65536 input.now)) v.items) }
+    ensures { IfOk result (λ v. FileSession (lines (take 65536 input.now)) v.items) }
 {
     let mut out = Vec::new(heap);
     let mut bench = vec![in heap; 0; BENCH]?;
