@@ -22,7 +22,7 @@ use Rattle.constraints.specs.Kinds.{Names}
 use Rattle.constraints.specs.Printed.{rule_said, name_said}
 use Rattle.constraints.specs.Served.{folded_name, TextAdded, text_denied, text_read, NameAnswered, name_too_long, name_not_read, bench_too_short, name_read, Answers, policy_comes, policy_awaited, rule_comes, name_comes, not_served, Session, session_ends, session_goes}
 use Rattle.constraints.specs.Theorems.{OneSession}
-use Rattle.constraints.proofs.Shapes.{posix_is, first_is}
+use Rattle.session.proofs.Shapes.{posix_is, first_is}
 
 one_added : {rules a b : Rules} {text : List ℕ} {r s : Result ℕ ℕ} → TextAdded rules text a r → TextAdded rules text b s → (a ≡ b) × (r ≡ s)
 one_added (text_denied k) (text_denied j) = (refl, ap Err (one_number k j))

@@ -1,5 +1,3 @@
-mod Shapes
-mod Splits
 mod TextAdded
 mod Said
 mod NameAnswered

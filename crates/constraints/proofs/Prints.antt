@@ -10,7 +10,7 @@ use Rattle.constraints.specs.Kinds.{Names, NamesNone, rule_line, name_line}
 use Rattle.constraints.specs.NameLines.{SaysAnswer}
 use Rattle.constraints.specs.Printed.{asked, rule_said}
 use Rattle.constraints.specs.Served.{Appends, TextAdded, Answers, policy_comes, policy_awaited, rule_comes, name_comes, not_served}
-use Rattle.constraints.proofs.Shapes.{posix_is, first_is, two_from}
+use Rattle.session.proofs.Shapes.{posix_is, first_is, two_from}
 
 -- nothing is appended
 pub silent : (P : List ℕ → Type 0) (out : List ℕ) → P [] → Appends P out out

@@ -6,7 +6,7 @@ use Rattle.policies.specs.declared.named.NamedPolicy.TheVariants.{Posix}
 use Rattle.sheet.specs.Changes.{Rules}
 use Rattle.constraints.specs.declared.line.State.{State}
 use Rattle.constraints.specs.declared.line.State.TheVariants.{Awaiting}
-use Rattle.constraints.specs.Lines.{lines}
+use Rattle.session.specs.Lines.{lines}
 use Rattle.constraints.specs.Served.{Appends, Answers, Session, session_ends, session_goes, FileSession}
 
 -- whatever the lines that are left print, comes behind what is printed; the bench keeps its length

@@ -1,18 +1,18 @@
 ghost use Rattle.std.specs.Prelude.{◌≡◌, ℕ, [], ◌++◌, length, take, IfOk, MatchResult};
 ghost use Rattle.sheet.specs.Sheets.{locked};
 ghost use Rattle.constraints.specs.Kinds.{rule_line};
-ghost use Rattle.constraints.specs.Lines.{lines};
+ghost use Rattle.session.specs.Lines.{lines};
 ghost use Rattle.constraints.specs.Printed.{asked};
 ghost use Rattle.constraints.specs.Served.{Answers, Appends, FileSession};
 ghost use Rattle.constraints.specs.declared.line.State.TheVariants.{Serving};
 
 use crate::adding::add_text;
 use crate::line::{Line, State, kind_of};
-use crate::lines::next_line;
 use crate::naming::serve_name;
 use crate::printing::print_denial;
 use policies::NamedPolicy;
 use rules::alphabet::{Bytes, Folding};
+use session::lines::next_line;
 use sheet::{LockedSheet, OpenSheet};
 use std::alloc::{AllocError, Global};
 

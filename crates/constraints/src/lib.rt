@@ -3,7 +3,6 @@
 mod adding;
 pub mod answers;
 mod line;
-mod lines;
 mod naming;
 mod printing;
 pub mod theorems;

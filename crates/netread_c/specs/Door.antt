@@ -1,6 +1,6 @@
 -- What the function for C returns, and what it leaves in the output. Assumes nothing.
 use Rattle.std.specs.Prelude.{◌≡◌, ℕ, ◌-◌, ◌^◌, ◌<◌, ◌≤◌, ◌⊎◌, List, ◌++◌, length, take, drop}
-use Rattle.constraints.specs.Lines.{lines}
+use Rattle.session.specs.Lines.{lines}
 use Rattle.constraints.specs.Served.{FileSession}
 
 -- the bytes are written to the front of the output where there is room for them all; r tells how many there are in either case

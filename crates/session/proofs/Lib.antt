@@ -1,4 +1,4 @@
-mod Shapes
+pub mod Shapes
 mod Splits
 mod Prints
 mod Turns

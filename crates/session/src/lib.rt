@@ -2,7 +2,7 @@
 
 pub mod answers;
 mod line;
-mod lines;
+pub mod lines;
 pub mod theorems;
 
 pub use answers::{LIMIT, serve, serve_line};

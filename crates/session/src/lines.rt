@@ -16,7 +16,7 @@ fn line_end(input: &[u8]) -> usize
 }
 
 // The first line, without the byte that ends it, and what follows.
-pub(crate) fn next_line(input: &[u8]) -> Option<(&[u8], &[u8])>
+pub fn next_line(input: &[u8]) -> Option<(&[u8], &[u8])>
     ensures { MatchOption result (length input.now ≡ 0) (λ p. (lines input.now ≡ p.0.now ∷ lines p.1.now) × (length p.1.now < length input.now)) }
 {
     if input.is_empty() {

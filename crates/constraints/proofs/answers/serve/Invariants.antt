@@ -1,6 +1,6 @@
 use Rattle.std.proofs.Common.{length, take, vec_items, vec_len}
 use Rattle.sheet.specs.Sheets.{locked}
-use Rattle.constraints.specs.Lines.{lines}
+use Rattle.session.specs.Lines.{lines}
 use Rattle.constraints.proofs.Turns.{Goes_on}
 use Rattle.constraints.proofs.answers.serve.Given as goal
 

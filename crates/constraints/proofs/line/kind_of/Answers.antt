@@ -1,5 +1,5 @@
 use Rattle.std.proofs.Common.{arith, ltb-false, ltb-true}
-use Rattle.constraints.proofs.Shapes.{two_is, two_from}
+use Rattle.session.proofs.Shapes.{two_is, two_from}
 use Rattle.constraints.proofs.line.kind_of.Goals as goal
 use Rattle.constraints.proofs.line.kind_of.Goals.{in_default-line-via-then-line-lt2, in_default-line-via-else-line-lt2+in-114+in_default-1, in_default-line-via-else-line-lt2+in-110+in_default-1, in_default-line-via-else-line-lt2+in_default-1}
 
