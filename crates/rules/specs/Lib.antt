@@ -1,5 +1,6 @@
 pub mod Trees
 pub mod Denials
+pub mod Kinds
 pub mod Languages
 pub mod Readings
 pub mod Alphabets

@@ -5,54 +5,39 @@ ghost use Rattle.rules.specs.Denials.{number};
 #[derive(Clone, Copy, PartialEq, Eq, Debug)]
 pub enum Denial {
     // Sixteen rules are held.
-    SheetFull,
+    SheetFull = 1,
     // A rule has no row, or over 64.
-    RowCount,
+    RowCount = 2,
     // A row's kind is over 4.
-    UnknownKind,
+    UnknownKind = 3,
     // A leaf is not admitted by the alphabet, or lo or hi is not 0 elsewhere.
-    NotAdmitted,
+    NotAdmitted = 4,
     // A row comes when the open count is 0.
-    RowTooMany,
+    RowTooMany = 5,
     // The open count is not 0 after the last row.
-    RowsMissing,
+    RowsMissing = 6,
     // The place is not held.
-    NoSuchPlace,
+    NoSuchPlace = 7,
     // The name has over 120 symbols.
-    NameTooLong,
+    NameTooLong = 8,
     // The bench is too short.
-    BenchTooShort,
+    BenchTooShort = 9,
     // There are fewer rows or masks than the answer needs.
-    AnswerTooLong,
+    AnswerTooLong = 10,
     // The name is outside the language.
-    NotRead,
+    NotRead = 11,
     // The text has over 200 bytes.
-    TextTooLong,
+    TextTooLong = 12,
     // The grammar does not derive the text.
-    NotDerived,
+    NotDerived = 13,
     // The text needs over 64 rows.
-    TextRows,
+    TextRows = 14,
 }
 
 impl Denial {
     pub fn number(self) -> u8
         ensures { result ≡ number self }
     {
-        match self {
-            Denial::SheetFull => 1,
-            Denial::RowCount => 2,
-            Denial::UnknownKind => 3,
-            Denial::NotAdmitted => 4,
-            Denial::RowTooMany => 5,
-            Denial::RowsMissing => 6,
-            Denial::NoSuchPlace => 7,
-            Denial::NameTooLong => 8,
-            Denial::BenchTooShort => 9,
-            Denial::AnswerTooLong => 10,
-            Denial::NotRead => 11,
-            Denial::TextTooLong => 12,
-            Denial::NotDerived => 13,
-            Denial::TextRows => 14,
-        }
+        self as u8
     }
 }

@@ -1,19 +1,21 @@
 ghost use Rattle.std.specs.Prelude.{◌≡◌};
 ghost use Rattle.rules.specs.Trees.{row};
 
-// The kinds of rows. An empty and a leaf have no parts, a choice and a sequence two, a star one.
-pub const EMPTY: u8 = 0;
+use crate::kind::Kind;
 
-pub const LEAF: u8 = 1;
+// The numbers of the kinds. A row has a number, since it may come from outside with any byte there.
+pub const EMPTY: u8 = Kind::Empty as u8;
 
-pub const CHOICE: u8 = 2;
+pub const LEAF: u8 = Kind::Leaf as u8;
 
-pub const SEQUENCE: u8 = 3;
+pub const CHOICE: u8 = Kind::Choice as u8;
 
-pub const STAR: u8 = 4;
+pub const SEQUENCE: u8 = Kind::Sequence as u8;
+
+pub const STAR: u8 = Kind::Star as u8;
 
 // One node of a rule: its kind and, at a leaf, the two numbers that say which symbols it holds.
-#[derive(Clone, Copy)]
+#[derive(Clone, Copy, PartialEq, Eq, Debug)]
 pub struct Row {
     pub kind: u8,
     pub lo: u32,

@@ -1,13 +1,15 @@
 use crate::alphabet::{Alphabet, Bytes, Folding, Segment, Segments};
+use crate::denial::Denial;
+use crate::kind::Kind;
 use crate::row::Row;
 use crate::rule::Rule;
 use std::test::Fail;
 
-fn denied<A: Alphabet>(alphabet: &A, rows: &[Row]) -> u8 {
-    match Rule::checked(alphabet, rows) {
-        Ok(_) => 0,
-        Err(denial) => denial.number(),
-    }
+// The number of the check that the rows meet, if there is one.
+fn denied(rows: &[Row]) -> Option<u8> {
+    Rule::checked(&Bytes, rows)
+        .err()
+        .map(|denial| denial.number())
 }
 
 #[test]
@@ -15,29 +17,25 @@ fn rows_are_checked_in_order(rt: HostRuntime) {
     let leaf = Row::new(1, 97, 97);
     let choice = Row::inner(2);
     let bad_kind = Row::new(5, 1, 1);
-    assert_eq!(rt; denied(&Bytes, &[]), 2);
-    assert_eq!(rt; denied(&Bytes, &[Row::inner(4); 65]), 2);
-    assert_eq!(rt; denied(&Bytes, &[leaf]), 0);
-    assert_eq!(rt; denied(&Bytes, &[leaf, bad_kind]), 5);
-    assert_eq!(rt; denied(&Bytes, &[bad_kind]), 3);
-    assert_eq!(rt; denied(&Bytes, &[Row::new(1, 98, 97)]), 4);
-    assert_eq!(rt; denied(&Bytes, &[Row::new(2, 0, 1), bad_kind]), 4);
-    assert_eq!(rt; denied(&Bytes, &[choice, leaf]), 6);
-    assert_eq!(rt; denied(&Bytes, &[Row::inner(4); 64]), 6);
-    assert_eq!(rt; denied(&Bytes, &[choice, leaf, leaf]), 0);
+    assert_eq!(rt; denied(&[]), Some(2));
+    assert_eq!(rt; denied(&[Row::inner(4); 65]), Some(2));
+    assert_eq!(rt; denied(&[leaf]), None);
+    assert_eq!(rt; denied(&[leaf, bad_kind]), Some(5));
+    assert_eq!(rt; denied(&[bad_kind]), Some(3));
+    assert_eq!(rt; denied(&[Row::new(1, 98, 97)]), Some(4));
+    assert_eq!(rt; denied(&[Row::new(2, 0, 1), bad_kind]), Some(4));
+    assert_eq!(rt; denied(&[choice, leaf]), Some(6));
+    assert_eq!(rt; denied(&[Row::inner(4); 64]), Some(6));
+    assert_eq!(rt; denied(&[choice, leaf, leaf]), None);
 }
 
 #[test]
 fn a_rule_keeps_its_rows(rt: HostRuntime) -> Result<(), Fail> {
-    match Rule::checked(&Bytes, &[Row::inner(4), Row::new(1, 0, 255)]) {
-        Ok(rule) => {
-            let rows = rule.rows();
-            assert!(rt; rows.len() == 2);
-            assert!(rt; rows[0].kind == 4 && rows[1].kind == 1 && rows[1].hi == 255);
-            Ok(())
-        }
-        Err(_) => Err(Fail::new("denied")),
-    }
+    let rule = Rule::checked(&Bytes, &[Row::inner(4), Row::new(1, 0, 255)])?;
+    let rows = rule.rows();
+    assert!(rt; rows.len() == 2);
+    assert!(rt; rows[0].kind == 4 && rows[1].kind == 1 && rows[1].hi == 255);
+    Ok(())
 }
 
 #[test]
@@ -51,4 +49,11 @@ fn alphabets(rt: HostRuntime) {
     assert!(rt; Segments.admits(9, 255) && !Segments.admits(0, 256));
     assert!(rt; Segments.holds(0, 0, &segment) && Segments.holds(7, 2, &segment));
     assert!(rt; !Segments.holds(8, 0, &segment) && !Segments.holds(0, 3, &segment));
+}
+
+#[test]
+fn kinds(rt: HostRuntime) {
+    assert_eq!(rt; Kind::try_from(0).ok(), Some(Kind::Empty));
+    assert_eq!(rt; Kind::try_from(4).ok(), Some(Kind::Star));
+    assert_eq!(rt; Kind::try_from(5).err(), Some(Denial::UnknownKind));
 }

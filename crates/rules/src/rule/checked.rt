@@ -1,34 +1,39 @@
 ghost use Rattle.std.specs.Prelude.{◌≡◌, ◌+◌, ◌≤◌, length, Some, None, MatchResult};
 ghost use Rattle.rules.specs.Checks.{parts, open_after, row_fits, row_met, met, checks};
 ghost use Rattle.rules.specs.Denials.{number};
+ghost use Rattle.rules.specs.Kinds.{kind_number};
 ghost use Rattle.rules.specs.RuleRows.{rule_rows, Ruled};
 
 use super::Rule;
 use crate::alphabet::Alphabet;
 use crate::denial::Denial;
-use crate::row::{CHOICE, EMPTY, LEAF, Row, SEQUENCE, STAR};
+use crate::kind::Kind;
+use crate::row::{EMPTY, Row};
 
-// How many parts a row of a kind has.
-fn parts_of(kind: u8) -> usize
-    ensures { result ≡ parts kind }
-{
-    if kind == CHOICE || kind == SEQUENCE {
-        2
-    } else if kind == STAR {
-        1
-    } else {
-        0
+impl Kind {
+    // How many parts a node of the kind has.
+    fn parts(self) -> usize
+        ensures { result ≡ parts (kind_number self) }
+    {
+        match self {
+            Kind::Empty => 0,
+            Kind::Leaf => 0,
+            Kind::Choice => 2,
+            Kind::Sequence => 2,
+            Kind::Star => 1,
+        }
     }
 }
 
 // Whether a leaf is admitted, or lo and hi are 0 elsewhere.
-fn fits<A: Alphabet>(alphabet: &A, row: Row) -> bool
+fn fits<A: Alphabet>(alphabet: &A, kind: Kind, row: Row) -> bool
+    requires { kind_number kind ≡ row.kind }
     ensures { result ≡ row_fits (A.Alphabet.admitted alphabet.now) row }
 {
-    if row.kind == LEAF {
-        return alphabet.admits(row.lo, row.hi);
+    match kind {
+        Kind::Leaf => alphabet.admits(row.lo, row.hi),
+        _ => row.lo == 0 && row.hi == 0,
     }
-    (row.lo == 0) & (row.hi == 0)
 }
 
 // Checks a row that comes at this open count, and gives the open count after it.
@@ -39,13 +44,11 @@ fn check_row<A: Alphabet>(alphabet: &A, count: usize, row: Row) -> Result<usize,
     if count == 0 {
         return Err(Denial::RowTooMany);
     }
-    if row.kind > STAR {
-        return Err(Denial::UnknownKind);
-    }
-    if !fits(alphabet, row) {
+    let kind = Kind::try_from(row.kind)?;
+    if !fits(alphabet, kind, row) {
         return Err(Denial::NotAdmitted);
     }
-    Ok(count - 1 + parts_of(row.kind))
+    Ok(count - 1 + kind.parts())
 }
 
 // Checks each row in turn, and that none is missing after the last.
@@ -69,10 +72,7 @@ impl Rule {
         ensures { MatchResult result (λ rule. (checks (A.Alphabet.admitted alphabet.now) rows.now ≡ None) × (rule_rows rule ≡ rows.now)) (λ d. checks (A.Alphabet.admitted alphabet.now) rows.now ≡ Some (number d)) }
     {
         let len = rows.len();
-        if len == 0 {
-            return Err(Denial::RowCount);
-        }
-        if len > 64 {
+        if len == 0 || len > 64 {
             return Err(Denial::RowCount);
         }
         check_rows(alphabet, rows)?;
