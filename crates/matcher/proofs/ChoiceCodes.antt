@@ -50,9 +50,6 @@ module _ (above : Order) (decided : Decided above) (replaced : Replaced above) (
     second_fixed : HeldSecond → (bs' : List ℕ) → Grown bs bs' → code bs 2 ≡ code bs' 2
     second_fixed h bs' g = second_is bs ∙ (ap (λ (z : Reading). stretch i j ∷ (nothing p ++ z)) (part_fixed above t w n bs bs' q b i j g h.0 h.1 h.2) ∙ sym (second_is bs'))
 
-    abbrev Over : (Reading → Reading) → ℕ → Reading → Type 0
-    Over F r y = AtLeast above (rows t) m (code bs r) (F y)
-
     pub reads_one : HeldFirst → Reads w (choice p q) i j (code bs 1)
     reads_one h = let P : Reading → Type 0 = λ z. Reads w (choice p q) i j z in subst P (sym (first_is bs)) (reads_first h.2.best.reads)
 

@@ -1,36 +1,52 @@
 -- The choice of a split, from split to split.
-use Rattle.std.proofs.Common.{◌≡◌, ℕ, ◌+◌, ◌-◌, ◌<◌, ◌≤◌, Bool, true, ◌⊎◌, List, length, get_or, refl}
-use Rattle.rules.specs.declared.row.Row.{Row}
-use Rattle.rules.specs.RuleRows.{Ruled}
+use Rattle.std.proofs.Common.{◌≡◌, ℕ, ◌+◌, ◌-◌, ◌<◌, ◌≤◌, ◌⊎◌, List, Option, Some, None, sym, refl, subst, inl, inr, arith}
 use Rattle.rules.specs.Languages.{Sight}
 use Rattle.rules.specs.Readings.{Reading}
 use Rattle.policies.specs.Orders.{Order, Decided, Replaced}
-use Rattle.matcher.specs.Sizes.{Sized}
-use Rattle.matcher.specs.States.{Reach, Keeps, Coded, BothCoded, Ready, Shows, Choosing}
-use Rattle.matcher.proofs.Nodes.{kind_at, found}
+use Rattle.matcher.specs.declared.frame.Frame.{Frame}
+use Rattle.matcher.specs.declared.frame.Spot.{Spot}
+use Rattle.matcher.specs.declared.ranking.Leader.{Leader}
+use Rattle.matcher.specs.declared.ranking.Leader.TheVariants.{Alone}
+use Rattle.matcher.specs.Frames.{frame_rows, frame_kind, second_node, On}
+use Rattle.matcher.specs.Leaders.{leader_code, best_code, LeaderShown, BestShown}
+use Rattle.matcher.specs.Searches.{BestBelowAt, KeepsAt, ReadyAt, CodedAt}
+use Rattle.matcher.specs.States.{Reach, BothCoded}
 use Rattle.matcher.proofs.SplitCodes.{below_none, below_skip, below_kept, below_done}
 
-module _ (above : Order) (decided : Decided above) (replaced : Replaced above) (rs : List Row) (table : List ℕ) (n m i j : ℕ) (sized : Sized rs table) (few : length rs ≤ 64) (short : n ≤ 120) (l : i ≤ j) (u : j ≤ n) (bs : List ℕ) where
-  abbrev second : ℕ
-  second = m + 1 + get_or table (m + 1) 0
+module _ (above : Order) (decided : Decided above) (replaced : Replaced above) (f : Frame) (w : List Sight) (s : Spot) (on : On f s) (bs : List ℕ) (ready : ReadyAt above f w bs s) (q : ℕ) (is : q ≡ second_node f s.node) where
+  -- at split k the best so far is b, and the pad has x
+  abbrev Choosing : ℕ → Option Leader → Reading → Type 0
+  Choosing k b x = BestBelowAt above f w bs s k (best_code b) × BestShown f bs s b x
 
-  abbrev State : ℕ → ℕ → Bool → Reading → Type 0
-  State k r shown x = Choosing above rs n bs m second i j k r shown x
+  reached : (a b : ℕ) → Reach (frame_rows f) (s.node + 1) q s.start s.end a b → Reach (frame_rows f) (s.node + 1) (second_node f s.node) s.start s.end a b
+  reached a b r = let P : ℕ → Type 0 = λ v. Reach (frame_rows f) (s.node + 1) v s.start s.end a b in subst P is r
 
-  pub choosing_none : (a b : ℕ) → Reach rs (m + 1) second i j a b → (shown : Bool) (x : Reading) → State a 0 shown x
-  choosing_none a b f shown x = record { best = λ w ready. below_none above decided replaced rs table w n m i j sized few short l u bs ready a b f; shows = λ z. absurd (z refl) }
+  both : (k : ℕ) → BothCoded f.symbols bs (s.node + 1) q s.start k s.end → BothCoded f.symbols bs (s.node + 1) (second_node f s.node) s.start k s.end
+  both k c = let P : ℕ → Type 0 = λ v. BothCoded f.symbols bs (s.node + 1) v s.start k s.end in subst P is c
 
-  pub choosing_skip : (k r : ℕ) (shown : Bool) (x : Reading) → k ≤ j → (BothCoded n bs (m + 1) second i k j → ⊥) → State k r shown x → State (k + 1) r shown x
-  choosing_skip k r shown x y f s = record { best = λ w ready. below_skip above decided replaced rs table w n m i j sized few short l u bs ready k r y f (s.best w ready); shows = s.shows }
+  pub choosing_none : (a b : ℕ) → Reach (frame_rows f) (s.node + 1) q s.start s.end a b → (x : Reading) → Choosing a None x
+  choosing_none a b r x = (below_none above decided replaced f w s on bs ready a b (reached a b r), tt)
 
-  pub choosing_kept : (k r v : ℕ) (shown shown' : Bool) (x x' : Reading) → i ≤ k → k ≤ j → BothCoded n bs (m + 1) second i k j → State k r shown x
-      → (v ≡ r) ⊎ (v ≡ k - i + 1) → (r ≡ 0 → v ≡ k - i + 1) → Keeps above rs n bs m i j r (k - i + 1) v → (shown' ≡ true → Shows rs n bs m i j v x') → State (k + 1) v shown' x'
-  choosing_kept k r v shown shown' x x' a b coded s either none keeps shows = record {
-    best = λ w ready. below_kept above decided replaced rs table w n m i j sized few short l u bs ready k r v a b coded (s.best w ready) either none keeps;
-    shows = λ _. shows;
-  }
+  pub choosing_skip : (k : ℕ) (b b' : Option Leader) (x : Reading) → k ≤ s.end → (BothCoded f.symbols bs (s.node + 1) q s.start k s.end → ⊥) → b' ≡ b → Choosing k b x → Choosing (k + 1) b' x
+  choosing_skip k b b' x u n e c =
+      let P : Option Leader → Type 0 = λ v. Choosing (k + 1) v x in
+      let Q : ℕ → Type 0 = λ v. BothCoded f.symbols bs (s.node + 1) v s.start k s.end in
+      subst P (sym e) (below_skip above decided replaced f w s on bs ready k (best_code b) u (λ z. n (subst Q (sym is) z)) c.0, c.1)
 
-  pub chosen : (a b : ℕ) → Reach rs (m + 1) second i j a b → (k r : ℕ) (shown : Bool) (x : Reading) → b ≤ k → kind_at rs m ≡ 3 → Ruled rs → m < length rs → State k r shown x → (w : List Sight) → Ready above rs w n bs m second i j → Coded above rs w n bs m i j r
-  chosen a b f k r shown x g kind rule inside s w ready =
-      let t = found rs rule m inside in
-      below_done above decided replaced rs table w n m i j sized few short l u bs ready a b f k r g kind t.tree t.stands (s.best w ready)
+  pub choosing_first : (k : ℕ) (b b' : Option Leader) (x : Reading) → s.start ≤ k → k ≤ s.end → BothCoded f.symbols bs (s.node + 1) q s.start k s.end → b ≡ None → b' ≡ Some (Alone (k - s.start + 1)) → Choosing k b x → Choosing (k + 1) b' x
+  choosing_first k b b' x l u coded e e' c =
+      let P : Option Leader → Type 0 = λ v. Choosing (k + 1) v x in
+      let Q : Option Leader → Type 0 = λ v. BestBelowAt above f w bs s k (best_code v) in
+      subst P (sym e') (below_kept above decided replaced f w s on bs ready k 0 (k - s.start + 1) l u (both k coded) (subst Q e c.0) (inr refl) (λ _. refl) (λ _ _ _ _ _ z. absurd (z refl)), (omega arith, tt))
+
+  pub choosing_next : (k : ℕ) (b b' : Option Leader) (leader v : Leader) (x x' : Reading) → s.start ≤ k → k ≤ s.end → BothCoded f.symbols bs (s.node + 1) q s.start k s.end → b ≡ Some leader → b' ≡ Some v
+      → (leader_code v ≡ leader_code leader) ⊎ (leader_code v ≡ k - s.start + 1) → KeepsAt above f bs s (leader_code leader) (k - s.start + 1) (leader_code v) → LeaderShown f bs s v x' → Choosing k b x → Choosing (k + 1) b' x'
+  choosing_next k b b' leader v x x' l u coded e e' either keeps shown c =
+      let P : Option Leader → Type 0 = λ o. Choosing (k + 1) o x' in
+      let Q : Option Leader → Type 0 = λ o. Choosing k o x in
+      let d = subst Q e c in
+      let some : 0 < leader_code v = elim either [ inl z ↦ omega (arith, z, d.1.0) | inr z ↦ omega (arith, z) ] in
+      subst P (sym e') (below_kept above decided replaced f w s on bs ready k (leader_code leader) (leader_code v) l u (both k coded) d.0 either (λ z. absurd (omega (arith, z, d.1.0))) keeps, (some, shown))
+
+  pub chosen : (a b k : ℕ) (o : Option Leader) (x : Reading) → Reach (frame_rows f) (s.node + 1) q s.start s.end a b → b ≤ k → frame_kind f s.node ≡ 3 → Choosing k o x → CodedAt above f w bs s (best_code o)
+  chosen a b k o x r g kind c = below_done above decided replaced f w s on bs ready a b (reached a b r) k (best_code o) g kind c.0

@@ -1,9 +1,9 @@
 -- Whether a leaf or nothing has a stretch, and what yes and no say.
-use Rattle.std.proofs.Common.{◌≡◌, ℕ, ◌-◌, ◌<◌, ◌≤◌, Bool, true, false, List, [], ◌∷◌, map, length, get_or, take, drop, sym, ap, ◌∙◌, subst, arith, drop-cons}
-use Rattle.std.proofs.lemmas.List.{get_or-map, length-map}
+use Rattle.std.proofs.Common.{◌≡◌, ℕ, ◌-◌, ◌<◌, ◌≤◌, Bool, true, false, List, [], ◌∷◌, map, length, get_or, take, drop, sym, ap, ◌∙◌, arith}
+use Rattle.std.proofs.lemmas.List.{drop-map, take-map}
 use Rattle.rules.specs.Trees.{Tree, leaf}
 use Rattle.rules.specs.Languages.{Sight, In, in_leaf, part}
-use Rattle.rules.proofs.Parts.{InCases, in_cases, leaf_part}
+use Rattle.rules.proofs.Parts.{InCases, in_cases}
 use Rattle.matcher.specs.States.{Says}
 use Rattle.matcher.proofs.Marks.{apart}
 
@@ -13,26 +13,17 @@ says_yes s x h = record { has = λ _. h; lacks = λ e. apart e }
 pub says_no : (s : Tree) (x : List Sight) → (In s x → ⊥) → Says s x false
 says_no s x h = record { has = λ e. apart (sym e); lacks = λ _ a. h a }
 
--- a leaf has no stretch but of one symbol
-pub leaf_apart : (lo hi : ℕ) (w : List Sight) (i j : ℕ) → i ≤ j → j ≤ length w → (j - i ≡ 1 → ⊥) → Says (leaf lo hi) (part w i j) false
-leaf_apart lo hi w i j a b f = says_no (leaf lo hi) (part w i j) (λ h. let e = leaf_part w lo hi i j a b h in f (omega arith))
+-- a leaf has a stretch of one symbol if it holds it
+pub leaf_one : {S : Type 0} (f : S → Sight) (xs : List S) (x : S) (lo hi : ℕ) → 1 ≤ length xs → length xs < 2 → x ≡ get_or xs 0 x → (r : Bool) → r ≡ f x lo hi → Says (leaf lo hi) (map f xs) r
+leaf_one f [] x lo hi l u is r g = absurd (omega arith)
+leaf_one f (y ∷ []) x lo hi l u is r g =
+    let e : f y lo hi ≡ r = ap (λ z. f z lo hi) (sym is) ∙ sym g in
+    record {
+      has = λ h. in_leaf (e ∙ h);
+      lacks = λ h a. let o : InCases (leaf lo hi) (f y ∷ []) = in_cases a in apart (sym o.2 ∙ (ap (λ (v : List Sight). (get_or v 0 (f y)) lo hi) (sym o.1) ∙ (e ∙ h)));
+    }
+leaf_one f (y ∷ z ∷ ys) x lo hi l u is r g = absurd (omega arith)
 
-single : (w : List Sight) (i j : ℕ) (d : Sight) → i < length w → j - i ≡ 1 → part w i j ≡ get_or w i d ∷ []
-single w i j d l e = ap (λ x. take x (drop i w)) e ∙ ap (take 1) (drop-cons w i d l)
-
--- and that if it holds the symbol
-module _ {S : Type 0} (f : S → Sight) (name : List S) (i j : ℕ) (x : S) (lo hi : ℕ) (l : i < length name) (e : j - i ≡ 1) (is : x ≡ get_or name i x) where
-  seen_one : part (map f name) i j ≡ f x ∷ []
-  seen_one =
-      let l' : i < length (map f name) = omega (arith, length-map name f) in
-      let g : get_or (map f name) i (f x) ≡ f x = get_or-map f name i x (f x) l ∙ ap f (sym is) in
-      single (map f name) i j (f x) l' e ∙ ap (λ (s : Sight). s ∷ []) g
-
-  pub leaf_says : (r : Bool) → r ≡ f x lo hi → Says (leaf lo hi) (part (map f name) i j) r
-  leaf_says r g = record {
-    has = λ y. let P : List Sight → Type 0 = λ z. In (leaf lo hi) z in subst P (sym seen_one) (in_leaf (sym g ∙ y));
-    lacks = λ y a.
-        let o : InCases (leaf lo hi) (part (map f name) i j) = in_cases a in
-        let s : o.0 ≡ f x = ap (λ (r : List Sight). get_or r 0 (f x)) (sym o.1 ∙ seen_one) in
-        apart (sym o.2 ∙ (ap (λ (s : Sight). s lo hi) s ∙ (sym g ∙ y)));
-  }
+-- a stretch of a name, as the leaves see it
+pub part_seen : {S : Type 0} (f : S → Sight) (xs : List S) (i j : ℕ) → part (map f xs) i j ≡ map f (take (j - i) (drop i xs))
+part_seen f xs i j = ap (take (j - i)) (drop-map f i xs) ∙ take-map f (j - i) (drop i xs)

@@ -1,5 +1,8 @@
 pub mod Nodes
+pub mod KindNumbers
 pub mod ByKind
+pub mod Framed
+pub mod Words
 pub mod Places
 pub mod Unpacked
 pub mod Marks
@@ -15,5 +18,5 @@ pub mod ChoiceCodes
 pub mod SplitCodes
 pub mod Solutions
 pub mod Wholes
-pub mod Outcomes
 pub mod Chosen
+pub mod Outcomes

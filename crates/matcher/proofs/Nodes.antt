@@ -6,7 +6,7 @@ use Rattle.rules.specs.declared.row.Row.{Row}
 use Rattle.rules.specs.Trees.{Tree, empty, leaf, choice, sequence, star, row, rows, size}
 use Rattle.rules.specs.RuleRows.{Ruled}
 use Rattle.rules.proofs.RowFacts.{length_rows}
-use Rattle.matcher.specs.Sizes.{Stands, SizedFrom, Sized}
+use Rattle.matcher.specs.Sizes.{Stands, SizedFrom, Sized, PairRoom}
 
 pub size_positive : (t : Tree) → 0 < size t
 size_positive empty = omega arith
@@ -105,6 +105,17 @@ kind_at rs m = (get_or rs m (row 0 0 0)).kind
 pub kind_is : (rs : List Row) (m : ℕ) (s : Tree) → Stands rs m s → kind_at rs m ≡ (head s).kind
 kind_is rs m s h = ap (λ (r : Row). r.kind) (stands_head rs m s h (row 0 0 0))
 
+kind_most : (s : Tree) → (head s).kind ≤ 4
+kind_most empty = omega arith
+kind_most (leaf lo hi) = omega arith
+kind_most (choice p q) = omega arith
+kind_most (sequence p q) = omega arith
+kind_most (star p) = omega arith
+
+-- a rule has no kind over 4
+pub kind_small : (rs : List Row) → Ruled rs → (m : ℕ) → m < length rs → kind_at rs m ≤ 4
+kind_small rs r m l = let f = found rs r m l in omega (arith, kind_is rs m f.tree f.stands, kind_most f.tree)
+
 -- a node with two parts, with what the table of sizes says of them
 pub record Pair (rs : List Row) (table : List ℕ) (m : ℕ) (s : Tree) : Type 0 where
   pub first : Tree
@@ -197,13 +208,6 @@ pub own_size : (rs : List Row) (table : List ℕ) (m : ℕ) → Ruled rs → Siz
 own_size rs table m r z l =
     let f = found rs r m l in
     omega (arith, z.sizes m f.tree (omega arith) f.stands, size_positive f.tree)
-
--- the sizes at a node with two parts
-pub record PairRoom (rs : List Row) (table : List ℕ) (m : ℕ) : Type 0 where
-  pub own : get_or table m 0 ≡ 1 + get_or table (m + 1) 0 + get_or table (m + 1 + get_or table (m + 1) 0) 0
-  pub first_some : 0 < get_or table (m + 1) 0
-  pub second_some : 0 < get_or table (m + 1 + get_or table (m + 1) 0) 0
-  pub within : m + 1 + get_or table (m + 1) 0 + get_or table (m + 1 + get_or table (m + 1) 0) 0 ≤ length rs
 
 pub pair_room : (rs : List Row) (table : List ℕ) (m : ℕ) → Ruled rs → Sized rs table → m < length rs → 1 < kind_at rs m → kind_at rs m ≤ 3 → PairRoom rs table m
 pair_room rs table m r z l a b =

@@ -1,26 +1,12 @@
 -- The answer of best_reading, from what its calls gave on the rule's rows.
-use Rattle.std.proofs.Common.{◌≡◌, ℕ, ◌≤◌, List, ◌++◌, length, take, drop, sym, ap, ◌∙◌, subst, arith, length-take}
+use Rattle.std.proofs.Common.{◌≡◌, ℕ, List, ◌++◌, length, take, drop, sym, ap, ◌∙◌, subst}
 use Rattle.std.proofs.lemmas.List.{take-append-drop}
 use Rattle.rules.specs.declared.row.Row.{Row}
 use Rattle.rules.specs.Trees.{Tree, size, Of}
-use Rattle.rules.specs.RuleRows.{Ruled}
 use Rattle.rules.specs.Languages.{Sight}
 use Rattle.rules.specs.Readings.{Reading}
 use Rattle.rules.proofs.RowFacts.{length_rows}
 use Rattle.matcher.specs.Matching.{Fits, Fit}
-use Rattle.matcher.specs.Benches.{Room}
-
-pub moved_rule : (rs rs' : List Row) → rs ≡ rs' → Ruled rs' → Ruled rs
-moved_rule rs rs' e r = subst Ruled (sym e) r
-
-pub few_rows : (rs : List Row) → Ruled rs → length rs ≤ 64
-few_rows rs r = omega (arith, ap length r.of, length_rows r.tree, r.few)
-
-pub fit_room : (nodes n : ℕ) (bench : List ℕ) (report : ℕ) → nodes ≤ 64 → Fits nodes n (length bench) report → Room nodes n bench
-fit_room nodes n bench report few f = record { nodes_few = few; name_short = f.short; cells = f.cells }
-
-pub front_long : (nodes : ℕ) (report : Reading) → nodes ≤ length report → length (take nodes report) ≡ nodes
-front_long nodes report l = omega (arith, length-take nodes report)
 
 moved_fit : (a b n m bench report : ℕ) → a ≡ b → n ≡ m → Fits a n bench report → Fits b m bench report
 moved_fit a b n m bench report e f h =

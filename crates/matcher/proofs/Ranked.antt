@@ -1,5 +1,5 @@
 -- The code that is kept of two.
-use Rattle.std.proofs.Common.{◌≡◌, ℕ, ◌-◌, ◌≤◌, List, ◌++◌, length, take, Ordering, Less, Equal, Greater, sym, refl, ap, ◌∙◌, subst, inl, inr, arith}
+use Rattle.std.proofs.Common.{◌≡◌, ℕ, ◌-◌, ◌≤◌, List, ◌++◌, length, take, Ordering, Less, Equal, Greater, true, false, is_lt, sym, refl, ap, ◌∙◌, subst, inl, inr, arith}
 use Rattle.std.proofs.lemmas.List.{take_at}
 use Rattle.rules.specs.declared.row.Row.{Row}
 use Rattle.rules.specs.Trees.{Tree, rows, Of, Bound}
@@ -8,11 +8,22 @@ use Rattle.rules.specs.Readings.{Reading, Reads, stretch}
 use Rattle.policies.specs.Orders.{Order, Ranks, Answers, rank_number}
 use Rattle.matcher.specs.Unpacking.{unpacked}
 use Rattle.matcher.specs.States.{Kept, Shows}
+use Rattle.matcher.proofs.Marks.{apart}
 use Rattle.matcher.proofs.Bounds.{bound_stands, few_nodes}
 
 -- a reading that was written in front
 pub shown_front : (rs : List Row) (n : ℕ) (bs : List ℕ) (m i j r k : ℕ) (out rest : Reading) → length out ≡ k → Shows rs n bs m i j r out → Shows rs n bs m i j r (take k (out ++ rest))
 shown_front rs n bs m i j r k out rest l f s h = take_at out rest k l ∙ f s h
+
+pub less : (o : Ordering) → is_lt o ≡ true → o ≡ Less
+less Less e = refl
+less Equal e = apart (sym e)
+less Greater e = apart (sym e)
+
+pub not_less : (o : Ordering) → is_lt o ≡ false → o ≡ Less → ⊥
+not_less Less e = apart e
+not_less Equal e = λ z. apart (sym (ap is_lt z))
+not_less Greater e = λ z. apart (sym (ap is_lt z))
 
 module _ (above : Order) (t s : Tree) (w : List Sight) (n : ℕ) (bs : List ℕ) (rs : List Row) (m i j a b k : ℕ) (u v : Reading) (r : Ordering) (e : Of rs t) (few : length rs ≤ 64) (bound : Bound t m s)
     (u-is : Shows rs n bs m i j a (take k u)) (v_is : Shows rs n bs m i j b (take k v))

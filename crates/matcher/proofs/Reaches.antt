@@ -17,9 +17,6 @@ module _ (rs : List Row) (m : ℕ) (w : List Sight) (i j : ℕ) (l : i ≤ j) (u
   leaf_span k = by_leaf rs m (λ s. In s (part w i j) → j ≡ suc i) k (λ lo hi _ h. leaf_part w lo hi i j l u h)
 
 module _ (rs : List Row) (p q i j : ℕ) (l : i ≤ j) where
-  pub reach_each : Reach rs p q i j i (j + 1)
-  reach_each = record { from = omega arith; order = omega arith; to = omega arith; only = λ w v s s' a b h x y c d. (x, omega arith) }
-
   pub first_empty : kind_at rs p ≡ 0 → Reach rs p q i j i (i + 1)
   first_empty k = record {
     from = omega arith;

@@ -8,11 +8,15 @@ use Rattle.rules.specs.Readings.{Reading, Reads, reads_sequence, stretch}
 use Rattle.rules.proofs.Parts.{sequence_split}
 use Rattle.rules.proofs.ReadingFacts.{ReadsCases, reads_cases, reads_ordered, reads_in}
 use Rattle.policies.specs.Orders.{Order, Decided, Replaced}
+use Rattle.matcher.specs.declared.frame.Frame.{Frame}
+use Rattle.matcher.specs.declared.frame.Spot.{Spot}
 use Rattle.matcher.specs.Sizes.{Stands, Sized}
+use Rattle.matcher.specs.Frames.{frame_rows, second_node, On}
 use Rattle.matcher.specs.Unpacking.{cell, unpacked}
 use Rattle.matcher.specs.Benches.{Grown, AtLeast, Held}
 use Rattle.matcher.specs.States.{Reach, Keeps, Coded, BothCoded, Ready, BestBelow}
-use Rattle.matcher.proofs.Nodes.{kind_at, sequence_first, sequence_second}
+use Rattle.matcher.proofs.Framed.{framed}
+use Rattle.matcher.proofs.Nodes.{Found, found, kind_at, sequence_first, sequence_second}
 use Rattle.matcher.proofs.ByKind.{by_sequence}
 use Rattle.matcher.proofs.Bounds.{bound_stands, few_nodes, sequence_left, sequence_right}
 use Rattle.matcher.proofs.Lifts.{trans, same_left, same_right, lift_left, lift_right}
@@ -59,9 +63,45 @@ module _ (above : Order) (decided : Decided above) (replaced : Replaced above) (
         (lift_right above decided replaced t few w m i j p q bound k u (xq bs k) v ru g.2.best.reads rv (g.2.best.outranks v rv)))
 
 -- the splits of a sequence whose codes are all in the bench
-module _ (above : Order) (decided : Decided above) (replaced : Replaced above) (rs : List Row) (table : List ℕ) (w : List Sight) (n m i j : ℕ) (sized : Sized rs table) (few : length rs ≤ 64) (short : n ≤ 120) (l : i ≤ j) (u : j ≤ n) where
+module _ (above : Order) (decided : Decided above) (replaced : Replaced above) (f : Frame) (w : List Sight) (s : Spot) (on : On f s) where
+  abbrev rs : List Row
+  rs = frame_rows f
+
+  abbrev table : List ℕ
+  table = f.sizes
+
+  abbrev n : ℕ
+  n = f.symbols
+
+  abbrev m : ℕ
+  m = s.node
+
+  abbrev i : ℕ
+  i = s.start
+
+  abbrev j : ℕ
+  j = s.end
+
+  abbrev sized : Sized rs table
+  sized = (framed f).sizes
+
+  abbrev few : length rs ≤ 64
+  few = (framed f).few
+
+  abbrev short : n ≤ 120
+  short = f.short
+
+  abbrev l : i ≤ j
+  l = on.start
+
+  abbrev u : j ≤ n
+  u = on.end
+
   abbrev second : ℕ
-  second = m + 1 + get_or table (m + 1) 0
+  second = second_node f m
+
+  node_tree : Found rs m
+  node_tree = found rs (framed f).tree m on.node
 
   second_at : (p q : Tree) → Stands rs m (sequence p q) → Stands rs second q
   second_at p q h = let P : ℕ → Type 0 = λ k. Stands rs (m + 1 + k) q in subst P (sym (sized.sizes (m + 1) p (omega arith) (sequence_first rs m p q h))) (sequence_second rs m p q h)
@@ -141,14 +181,14 @@ module _ (above : Order) (decided : Decided above) (replaced : Replaced above) (
         lost : (p q : Tree) → Stands rs m (sequence p q) → (d : ℕ) → i ≤ d → d ≡ k → In p (part w i d) → In q (part w d j) → ⊥
         lost p q h d x e c z = f (ready.coded p q h k (omega arith) y (moved_in p (part w i d) (part w i k) (ap (λ v. part w i v) e) c) (moved_in q (part w d j) (part w k j) (ap (λ v. part w v j) e) z))
 
-    module _ (k r v : ℕ) (x : i ≤ k) (y : k ≤ j) (coded : BothCoded n bs (m + 1) second i k j) (s : Below k r)
+    module _ (k r v : ℕ) (x : i ≤ k) (y : k ≤ j) (coded : BothCoded n bs (m + 1) second i k j) (below : Below k r)
         (either : (v ≡ r) ⊎ (v ≡ k - i + 1)) (none : r ≡ 0 → v ≡ k - i + 1) (keeps : Keeps above rs n bs m i j r (k - i + 1) v) where
       some : v ≡ 0 → ⊥
       some e = elim either [ inl c ↦ (let d = none (sym c ∙ e) in omega arith) | inr c ↦ omega arith ]
 
       split : (h : ℕ) × (i ≤ h) × (h ≤ j) × (v ≡ h - i + 1) × BothCoded n bs (m + 1) second i h j
       split = elim either [
-        | inl c ↦ (let d = s.split (λ z. some (c ∙ z)) in (d.0, d.1, d.2, c ∙ d.3, d.4))
+        | inl c ↦ (let d = below.split (λ z. some (c ∙ z)) in (d.0, d.1, d.2, c ∙ d.3, d.4))
         | inr c ↦ (k, x, y, c, coded)
       ]
 
@@ -161,39 +201,39 @@ module _ (above : Order) (decided : Decided above) (replaced : Replaced above) (
             subst P (sym split.3) (split_reads t e p q bound split.0 split.1 split.2 split.4)
 
         over_new : AtLeast above (rows t) m (Code p q v) (Code p q (k - i + 1))
-        over_new = elim (ℕ_discrete r 0) [ yes z ↦ inl (ap (λ c. Code p q c) (none z)) | no z ↦ (keeps t (sequence p q) w e bound z (best_reads t e p q bound k r s z) reads_new).new ]
+        over_new = elim (ℕ_discrete r 0) [ yes z ↦ inl (ap (λ c. Code p q c) (none z)) | no z ↦ (keeps t (sequence p q) w e bound z (best_reads t e p q bound k r below z) reads_new).new ]
 
         over : (d : ℕ) (y' z' : Reading) → i ≤ d → d < k + 1 → Reads w p i d y' → Reads w q d j z' → AtLeast above (rows t) m (Code p q v) (stretch i j ∷ (y' ++ z'))
         over d y' z' c o ry rz = elim (ℕ_discrete d k) [
           | yes h ↦ (let P : ℕ → Type 0 = λ z. Reads w p i z y' in let Q : ℕ → Type 0 = λ z. Reads w q z j z' in
               trans above decided replaced t (few_nodes rs t e few) w m (sequence p q) bound i j (Code p q v) (Code p q (k - i + 1)) (stretch i j ∷ (y' ++ z')) reads_v reads_new (reads_sequence ry rz) over_new
               (split_over t e p q bound k x y coded y' z' (subst P h ry) (subst Q h rz)))
-          | no h ↦ (let z = s.some p q (bound_stands rs t (sequence p q) m e bound) d c (omega arith) (reads_in ry) (reads_in rz) in
-              trans above decided replaced t (few_nodes rs t e few) w m (sequence p q) bound i j (Code p q v) (Code p q r) (stretch i j ∷ (y' ++ z')) reads_v (best_reads t e p q bound k r s z) (reads_sequence ry rz)
-              (keeps t (sequence p q) w e bound z (best_reads t e p q bound k r s z) reads_new).old (s.outranks t e p q bound d y' z' c (omega arith) ry rz))
+          | no h ↦ (let z = below.some p q (bound_stands rs t (sequence p q) m e bound) d c (omega arith) (reads_in ry) (reads_in rz) in
+              trans above decided replaced t (few_nodes rs t e few) w m (sequence p q) bound i j (Code p q v) (Code p q r) (stretch i j ∷ (y' ++ z')) reads_v (best_reads t e p q bound k r below z) (reads_sequence ry rz)
+              (keeps t (sequence p q) w e bound z (best_reads t e p q bound k r below z) reads_new).old (below.outranks t e p q bound d y' z' c (omega arith) ry rz))
         ]
 
       pub below_kept : Below (k + 1) v
       below_kept = record { split = λ _. split; some = λ p q h d c o z' y'. some; outranks = over }
 
-    pub below_done : (a b : ℕ) → Reach rs (m + 1) second i j a b → (k r : ℕ) → b ≤ k → kind_at rs m ≡ 3 → (s₀ : Tree) → Stands rs m s₀ → Below k r → Coded above rs w n bs m i j r
-    below_done a b reach k r f kind s₀ h₀ s = record { some = omega (arith, positive s₀ h₀); small = small s₀ h₀; held = held }
+    pub below_done : (a b : ℕ) → Reach rs (m + 1) second i j a b → (k r : ℕ) → b ≤ k → kind_at rs m ≡ 3 → Below k r → Coded above rs w n bs m i j r
+    below_done a b reach k r g kind s = let o = node_tree in record { some = omega (arith, positive o.tree o.stands); small = small o.tree o.stands; held = held }
       where
         all : Below (j + 1) r
-        all = below_end a b reach k r f s
+        all = below_end a b reach k r g s
 
-        found : (p q : Tree) → Stands rs m (sequence p q) → r ≡ 0 → ⊥
-        found p q h = let d = sequence_split w p q i j l (omega (arith, ready.long)) (ready.present (sequence p q) h) in all.some p q h d.0 d.1 (omega (arith, d.2)) d.3 d.4
+        filled : (p q : Tree) → Stands rs m (sequence p q) → r ≡ 0 → ⊥
+        filled p q h = let d = sequence_split w p q i j l (omega (arith, ready.long)) (ready.present (sequence p q) h) in all.some p q h d.0 d.1 (omega (arith, d.2)) d.3 d.4
 
         positive : (s : Tree) → Stands rs m s → 0 < r
-        positive = by_sequence rs m (λ _. 0 < r) kind (λ p q h. let z : r ≡ 0 → ⊥ = found p q h in omega arith)
+        positive = by_sequence rs m (λ _. 0 < r) kind (λ p q h. let z : r ≡ 0 → ⊥ = filled p q h in omega arith)
 
         small : (s : Tree) → Stands rs m s → r < 254
-        small = by_sequence rs m (λ _. r < 254) kind (λ p q h. let d = all.split (found p q h) in omega (arith, d.2, d.3))
+        small = by_sequence rs m (λ _. r < 254) kind (λ p q h. let d = all.split (filled p q h) in omega (arith, d.2, d.3))
 
         held_pair : (t : Tree) → Of rs t → (p q : Tree) → Bound t m (sequence p q) → Held above t w n bs (sequence p q) m i j r
         held_pair t e p q b =
-            let z = found p q (bound_stands rs t (sequence p q) m e b) in
+            let z = filled p q (bound_stands rs t (sequence p q) m e b) in
             let d = all.split z in
             let P : ℕ → Type 0 = λ x. (bs' : List ℕ) → Grown bs bs' → Code p q x ≡ unpacked n bs' (sequence p q) m (stretch i j) x in
             record {

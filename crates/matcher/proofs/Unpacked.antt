@@ -1,11 +1,11 @@
 -- Writing a head and two parts into a list, one after the other.
-use Rattle.std.proofs.Common.{◌≡◌, ℕ, suc, ◌+◌, ◌-◌, ◌<◌, ◌≤◌, Bool, true, false, cond, eqb, List, [], ◌∷◌, ◌++◌, length, get_or, take, drop, set, replicate, Some, None, Option, sym, refl, ap, ◌∙◌, subst, append-nil, one-add, arith, length-append, length-drop, length-take}
+use Rattle.std.proofs.Common.{◌≡◌, ℕ, suc, ◌+◌, ◌-◌, ◌<◌, ◌≤◌, List, [], ◌∷◌, ◌++◌, length, get_or, take, drop, set, replicate, None, Option, sym, refl, ap, ◌∙◌, subst, append-nil, one-add, arith, length-append, length-drop, length-take}
 use Rattle.std.proofs.lemmas.List.{length-set, take_at, drop_at, drop_all, nil_from_length, replicate-append-replicate}
 use Rattle.rules.specs.declared.row.Row.{Row}
 use Rattle.rules.specs.Trees.{Tree, empty, leaf, choice, sequence, star, size}
 use Rattle.rules.specs.Readings.{Reading, nothing}
 use Rattle.matcher.specs.Sizes.{Stands, Sized}
-use Rattle.matcher.specs.Unpacking.{unpacked, first_share, second_share, code_at, Within, cut}
+use Rattle.matcher.specs.Unpacking.{unpacked, first_share, second_share, code_at}
 use Rattle.matcher.proofs.Nodes.{kind_at, kind_is, choice_first, choice_second, sequence_first, sequence_second, star_part}
 use borrow.Rule.Slice.PartMut.{put_mid}
 
@@ -23,11 +23,6 @@ module _ {X : Type 0} (xs : List X) (x : X) (ys zs : List X) (a b : ℕ) (long :
 
   pub second_fits : length ys ≡ a → 1 + a ≤ length (put_mid 1 (1 + a - 1) (set xs 0 x) ys)
   second_fits e = omega (arith, half_long e)
-
-  pub second_long : length ys ≡ a → length (take (length (put_mid 1 (1 + a - 1) (set xs 0 x) ys) - (1 + a)) (drop (1 + a) (put_mid 1 (1 + a - 1) (set xs 0 x) ys))) ≡ b
-  second_long e =
-      let l : List X = put_mid 1 (1 + a - 1) (set xs 0 x) ys in
-      omega (arith, half_long e, length-take (length l - (1 + a)) (drop (1 + a) l), length-drop (1 + a) l)
 
 take_head : {X : Type 0} (x : X) (ys r : List X) (a : ℕ) → length ys ≡ a → take (1 + a) (x ∷ (ys ++ r)) ≡ x ∷ ys
 take_head {X} x ys r a e = rw one-add (ap (λ (l : List X). x ∷ l) (take_at ys r a e))
@@ -82,23 +77,23 @@ module _ (rs : List Row) (table : List ℕ) (n : ℕ) (bs : List ℕ) (m : ℕ) 
   both : (ys zs us vs : Reading) → ys ≡ us → zs ≡ vs → o ∷ (ys ++ zs) ≡ o ∷ (us ++ vs)
   both ys zs us vs e f = ap (λ (r : Reading). o ∷ (r ++ zs)) e ∙ ap (λ (r : Reading). o ∷ (us ++ r)) f
 
-  pub unpacked_pair : 1 < kind_at rs m → kind_at rs m ≤ 3 → (A B : Option (ℕ × ℕ)) (d e : ℕ) (ys zs : Reading)
-      → A ≡ first_share (kind_at rs m) o c → B ≡ second_share (kind_at rs m) o c → d ≡ code_at n bs (m + 1) A → e ≡ code_at n bs (m + 1 + get_or table (m + 1) 0) B
-      → Part (m + 1) A d ys → Part (m + 1 + get_or table (m + 1) 0) B e zs
+  pub unpacked_pair : 1 < kind_at rs m → kind_at rs m ≤ 3 → (second : ℕ) → second ≡ m + 1 + get_or table (m + 1) 0 → (A B : Option (ℕ × ℕ)) (d e : ℕ) (ys zs : Reading)
+      → A ≡ first_share (kind_at rs m) o c → B ≡ second_share (kind_at rs m) o c → d ≡ code_at n bs (m + 1) A → e ≡ code_at n bs second B
+      → Part (m + 1) A d ys → Part second B e zs
       → (s : Tree) → Stands rs m s → o ∷ (ys ++ zs) ≡ unpacked n bs s m o c
-  unpacked_pair l u A B d e ys zs ha hb hd he fy fz empty h = absurd (omega (arith, kind_is rs m empty h))
-  unpacked_pair l u A B d e ys zs ha hb hd he fy fz (leaf lo hi) h = absurd (omega (arith, kind_is rs m (leaf lo hi) h))
-  unpacked_pair l u A B d e ys zs ha hb hd he fy fz (choice p q) h =
+  unpacked_pair l u second is A B d e ys zs ha hb hd he fy fz empty h = absurd (omega (arith, kind_is rs m empty h))
+  unpacked_pair l u second is A B d e ys zs ha hb hd he fy fz (leaf lo hi) h = absurd (omega (arith, kind_is rs m (leaf lo hi) h))
+  unpacked_pair l u second is A B d e ys zs ha hb hd he fy fz (choice p q) h =
       both ys zs _ _
       (one_part (kind_at rs m) 2 (m + 1) (λ k. first_share k o c) A d ys p (kind_is rs m (choice p q) h) ha hd (choice_first rs m p q h) fy)
-      (shifted (kind_at rs m) 2 (m + 1 + get_or table (m + 1) 0) (m + 1 + size p) (λ k. second_share k o c) B e zs q (kind_is rs m (choice p q) h) hb he
-      (ap (λ i. m + 1 + i) (sized.sizes (m + 1) p (omega arith) (choice_first rs m p q h))) (choice_second rs m p q h) fz)
-  unpacked_pair l u A B d e ys zs ha hb hd he fy fz (sequence p q) h =
+      (shifted (kind_at rs m) 2 second (m + 1 + size p) (λ k. second_share k o c) B e zs q (kind_is rs m (choice p q) h) hb he
+      (is ∙ ap (λ i. m + 1 + i) (sized.sizes (m + 1) p (omega arith) (choice_first rs m p q h))) (choice_second rs m p q h) fz)
+  unpacked_pair l u second is A B d e ys zs ha hb hd he fy fz (sequence p q) h =
       both ys zs _ _
       (one_part (kind_at rs m) 3 (m + 1) (λ k. first_share k o c) A d ys p (kind_is rs m (sequence p q) h) ha hd (sequence_first rs m p q h) fy)
-      (shifted (kind_at rs m) 3 (m + 1 + get_or table (m + 1) 0) (m + 1 + size p) (λ k. second_share k o c) B e zs q (kind_is rs m (sequence p q) h) hb he
-      (ap (λ i. m + 1 + i) (sized.sizes (m + 1) p (omega arith) (sequence_first rs m p q h))) (sequence_second rs m p q h) fz)
-  unpacked_pair l u A B d e ys zs ha hb hd he fy fz (star p) h = absurd (omega (arith, kind_is rs m (star p) h))
+      (shifted (kind_at rs m) 3 second (m + 1 + size p) (λ k. second_share k o c) B e zs q (kind_is rs m (sequence p q) h) hb he
+      (is ∙ ap (λ i. m + 1 + i) (sized.sizes (m + 1) p (omega arith) (sequence_first rs m p q h))) (sequence_second rs m p q h) fz)
+  unpacked_pair l u second is A B d e ys zs ha hb hd he fy fz (star p) h = absurd (omega (arith, kind_is rs m (star p) h))
 
   pub unpacked_single : 3 < kind_at rs m → (ys : Reading) → Part (m + 1) None 0 ys → (s : Tree) → Stands rs m s → o ∷ ys ≡ unpacked n bs s m o c
   unpacked_single l ys f empty h = absurd (omega (arith, kind_is rs m empty h))
@@ -113,27 +108,6 @@ module _ (rs : List Row) (table : List ℕ) (n : ℕ) (bs : List ℕ) (m : ℕ) 
   unpacked_alone l xs e (choice p q) h = absurd (omega (arith, kind_is rs m (choice p q) h))
   unpacked_alone l xs e (sequence p q) h = absurd (omega (arith, kind_is rs m (sequence p q) h))
   unpacked_alone l xs e (star p) h = absurd (omega (arith, kind_is rs m (star p) h))
-
--- The stretches of the parts lie in the name.
-within_cond : (n : ℕ) (b : Bool) (x y : Option (ℕ × ℕ)) → Within n x → Within n y → Within n (cond b x y)
-within_cond n true x y f g = f
-within_cond n false x y f g = g
-
-first_within : (n kind : ℕ) (o : Option (ℕ × ℕ)) (c : ℕ) → Within n o → Within n (first_share kind o c)
-first_within n kind None c w = tt
-first_within n kind (Some s) c w =
-    within_cond n (eqb kind 3) (Some (s.0, cut s.0 s.1 c)) (cond (eqb c 1) (Some s) None) (omega arith, omega arith) (within_cond n (eqb c 1) (Some s) None w tt)
-
-second_within : (n kind : ℕ) (o : Option (ℕ × ℕ)) (c : ℕ) → Within n o → Within n (second_share kind o c)
-second_within n kind None c w = tt
-second_within n kind (Some s) c w =
-    within_cond n (eqb kind 3) (Some (cut s.0 s.1 c, s.1)) (cond (eqb c 1) None (Some s)) (omega arith, omega arith) (within_cond n (eqb c 1) None (Some s) tt w)
-
-pub first_inside : (n kind : ℕ) (o : Option (ℕ × ℕ)) (c : ℕ) (a : Option (ℕ × ℕ)) → a ≡ first_share kind o c → Within n o → Within n a
-first_inside n kind o c a e w = rw e (first_within n kind o c w)
-
-pub second_inside : (n kind : ℕ) (o : Option (ℕ × ℕ)) (c : ℕ) (a : Option (ℕ × ℕ)) → a ≡ second_share kind o c → Within n o → Within n a
-second_inside n kind o c a e w = rw e (second_within n kind o c w)
 
 -- no stretch: nothing in any entry
 both_none : (p q : Tree) (x y : Reading) → x ≡ nothing p → y ≡ nothing q → None ∷ (x ++ y) ≡ None ∷ replicate (size p + size q) None

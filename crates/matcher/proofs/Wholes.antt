@@ -1,5 +1,5 @@
 -- The whole name: the best reading of the first node is the rule's best.
-use Rattle.std.proofs.Common.{◌≡◌, ℕ, ◌+◌, ◌*◌, ◌<◌, ◌≤◌, Bool, true, false, List, [], length, get_or, sym, ap, ◌∙◌, subst, inl, inr, append-nil, arith}
+use Rattle.std.proofs.Common.{◌≡◌, ℕ, ◌<◌, ◌≤◌, Bool, true, false, List, [], length, get_or, sym, ap, ◌∙◌, subst, inl, inr, append-nil, arith}
 use Rattle.rules.specs.declared.row.Row.{Row}
 use Rattle.rules.specs.Trees.{Tree, rows, Of, here}
 use Rattle.rules.specs.RuleRows.{Ruled}
@@ -8,14 +8,15 @@ use Rattle.rules.specs.Readings.{Reading, stretch}
 use Rattle.rules.proofs.Parts.{part_whole}
 use Rattle.rules.proofs.RowFacts.{length_rows}
 use Rattle.policies.specs.Orders.{Order, Best}
+use Rattle.matcher.specs.declared.frame.Frame.{Frame}
 use Rattle.matcher.specs.Sizes.{Stands, Sized}
-use Rattle.matcher.specs.Unpacking.{place, cell, unpacked}
-use Rattle.matcher.specs.Benches.{Room, AtLeast, BestAt, Right}
-use Rattle.matcher.specs.States.{Asked, Told, Settled}
+use Rattle.matcher.specs.Frames.{frame_rows, Blank, On}
+use Rattle.matcher.specs.Unpacking.{cell, unpacked}
+use Rattle.matcher.specs.Benches.{AtLeast, BestAt, Right}
+use Rattle.matcher.specs.States.{Told, Settled}
 use Rattle.matcher.proofs.Nodes.{stands_within, size_positive}
+use Rattle.matcher.proofs.Framed.{framed}
 use Rattle.matcher.proofs.Bounds.{bound_stands}
-use Rattle.matcher.proofs.Places.{place_below}
-use Rattle.matcher.proofs.Marks.{room_kept}
 
 root : (t : Tree) (rs : List Row) → Of rs t → Stands rs 0 t
 root t rs e = record { rest = []; is = e ∙ sym (append-nil (rows t)) }
@@ -30,20 +31,20 @@ strict : (above : Order) (rs : List Row) (m : ℕ) (x y : Reading) → AtLeast a
 strict above rs m x y (inl e) f = absurd (f (sym e))
 strict above rs m x y (inr h) f = h
 
-pub asked_root : (rs : List Row) (table : List ℕ) (n : ℕ) (bs bs' : List ℕ) → Ruled rs → Room (length rs) n bs → Sized rs table → length bs' ≡ length bs → Asked rs table n bs' 0 0 n
-asked_root rs table n bs bs' rule room sized e = record { tree = rule; room = room_kept (length rs) n bs bs' e room; sizes = sized; inside = some_row rs rule; start = omega arith; end = omega arith }
+pub root_on : (f : Frame) → On f (record { node = 0; start = 0; end = f.symbols })
+root_on f = record { node = some_row (frame_rows f) (framed f).tree; start = omega arith; end = omega arith }
 
-module _ (above : Order) (rs : List Row) (w : List Sight) (n : ℕ) (bs : List ℕ) (none : (a : ℕ) → a < length rs * (n + 1) * (n + 1) → get_or bs a 0 ≡ 0) where
-  blank : (m i j : ℕ) (s : Tree) → Stands rs m s → i ≤ j → j ≤ n → cell n bs m i j ≡ 0
-  blank m i j s h l u = none (place n m i j) (place_below (length rs) n m i j (omega (arith, stands_within rs m s h, size_positive s)) (omega arith) u)
+module _ (above : Order) (f : Frame) (w : List Sight) (bs : List ℕ) (none : Blank f bs) where
+  blank : (m i j : ℕ) (s : Tree) → Stands (frame_rows f) m s → i ≤ j → j ≤ f.symbols → cell f.symbols bs m i j ≡ 0
+  blank m i j s h l u = none (record { node = m; start = i; end = j }) (record { node = omega (arith, stands_within (frame_rows f) m s h, size_positive s); start = l; end = u })
 
-  pub blank_right : Right above rs w n bs
+  pub blank_right : Right above (frame_rows f) w f.symbols bs
   blank_right = record {
     sound = record {
       has = λ m i j s h l u x y. absurd (x (blank m i j s h l u));
       lacks = λ m i j s h l u x y. absurd (omega (arith, blank m i j s h l u, x));
     };
-    solved = record { at = λ t e m i j s b l u x y. absurd (omega (arith, blank m i j s (bound_stands rs t s m e b) l u, x)) };
+    solved = record { at = λ t e m i j s b l u x y. absurd (omega (arith, blank m i j s (bound_stands (frame_rows f) t s m e b) l u, x)) };
   }
 
 module _ (above : Order) (rs : List Row) (w : List Sight) (n : ℕ) (bs one : List ℕ) (long : length w ≡ n) where

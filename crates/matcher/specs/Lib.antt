@@ -2,6 +2,10 @@
 pub mod Matching
 -- what the engine's functions promise one another
 pub mod Sizes
+pub mod Frames
+pub mod Cells
 pub mod Unpacking
 pub mod Benches
 pub mod States
+pub mod Searches
+pub mod Leaders

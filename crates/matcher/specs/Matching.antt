@@ -1,11 +1,11 @@
 -- What best_reading answers: the best reading of a name by a rule, or why there is none. Assumes nothing.
-use Rattle.std.specs.Prelude.{◌≡◌, ℕ, ◌+◌, ◌*◌, ◌≤◌, List, ◌++◌, length, drop}
+use Rattle.std.specs.Prelude.{◌≡◌, ℕ, ◌+◌, ◌*◌, ◌≤◌, Bool, true, false, List, ◌++◌, length, drop, Result, Ok, Err}
 use Rattle.rules.specs.Trees.{Tree, size}
 use Rattle.rules.specs.Languages.{Sight, In}
 use Rattle.rules.specs.Readings.{Reading}
 use Rattle.policies.specs.Orders.{Order, Best}
-use Rattle.matcher.specs.declared.matching.Matched.{Matched}
-use Rattle.matcher.specs.declared.matching.Matched.TheVariants.{Unfit, NotRead, Found}
+use Rattle.matcher.specs.declared.matching.Unmatched.{Unmatched}
+use Rattle.matcher.specs.declared.matching.Unmatched.TheVariants.{Unfit, NotRead}
 
 -- the name is short enough, the bench has a byte for each node and stretch, and the report has an entry for each node
 pub record Fits (nodes symbols bench report : ℕ) : Type 0 where
@@ -18,7 +18,12 @@ abbrev pub Fit : Tree → List Sight → List ℕ → Reading → Type 0
 Fit t w bench report = Fits (size t) (length w) (length bench) (length report)
 
 -- the answer to the name w by the rule t, with the bench and the report before and after
-abbrev pub Outcome : Order → Tree → List Sight → List ℕ → List ℕ → Reading → Reading → Matched → Type 0
-Outcome above t w bench bench' report report' Unfit = (Fit t w bench report → ⊥) × (report' ≡ report) × (bench' ≡ bench)
-Outcome above t w bench bench' report report' NotRead = Fit t w bench report × (In t w → ⊥) × (report' ≡ report)
-Outcome above t w bench bench' report report' Found = Fit t w bench report × ((x : Reading) × Best above t w x × (report' ≡ x ++ drop (size t) report))
+abbrev pub Outcome : Order → Tree → List Sight → List ℕ → List ℕ → Reading → Reading → Result (Unit {0}) Unmatched → Type 0
+Outcome above t w bench bench' report report' (Err Unfit) = (Fit t w bench report → ⊥) × (report' ≡ report) × (bench' ≡ bench)
+Outcome above t w bench bench' report report' (Err NotRead) = Fit t w bench report × (In t w → ⊥) × (report' ≡ report)
+Outcome above t w bench bench' report report' (Ok done) = Fit t w bench report × ((x : Reading) × Best above t w x × (report' ≡ x ++ drop (size t) report))
+
+-- whether the name w was read by the rule t into the entries out, which stay where it was not
+abbrev pub Read : Order → Tree → List Sight → Reading → Reading → Bool → Type 0
+Read above t w out out' true = Best above t w out'
+Read above t w out out' false = (In t w → ⊥) × (out' ≡ out)

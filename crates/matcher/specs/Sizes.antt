@@ -1,5 +1,5 @@
 -- Where the trees of a rule's nodes stand among its rows, and the table of their sizes. Assumes nothing.
-use Rattle.std.specs.Prelude.{◌≡◌, ℕ, ◌≤◌, List, ◌++◌, length, drop, slice_index}
+use Rattle.std.specs.Prelude.{◌≡◌, ℕ, ◌+◌, ◌<◌, ◌≤◌, List, ◌++◌, length, drop, slice_index}
 use Rattle.rules.specs.declared.row.Row.{Row}
 use Rattle.rules.specs.Trees.{Tree, rows, size}
 
@@ -16,3 +16,15 @@ pub record SizedFrom (rs : List Row) (b : ℕ) (table : List ℕ) : Type 0 where
 -- the table holds the size of every node's tree
 abbrev pub Sized : List Row → List ℕ → Type 0
 Sized rs table = SizedFrom rs 0 table
+
+-- the number of a kind with two parts
+pub record Paired (n : ℕ) : Type 0 where
+  pub low : 1 < n
+  pub high : n ≤ 3
+
+-- the sizes at a node with two parts: its own, and that both parts are there
+pub record PairRoom (rs : List Row) (table : List ℕ) (m : ℕ) : Type 0 where
+  pub own : slice_index table m ≡ 1 + slice_index table (m + 1) + slice_index table (m + 1 + slice_index table (m + 1))
+  pub first_some : 0 < slice_index table (m + 1)
+  pub second_some : 0 < slice_index table (m + 1 + slice_index table (m + 1))
+  pub within : m + 1 + slice_index table (m + 1) + slice_index table (m + 1 + slice_index table (m + 1)) ≤ length rs

@@ -2,27 +2,17 @@
 use Rattle.std.specs.Prelude.{◌≡◌, ℕ, ◌+◌, ◌-◌, ◌<◌, ◌≤◌, Bool, true, false, List, ◌∷◌, ◌++◌, length, ◌≢◌}
 use Rattle.rules.specs.declared.row.Row.{Row}
 use Rattle.rules.specs.Trees.{Tree, sequence, star, rows, Of, Bound}
-use Rattle.rules.specs.RuleRows.{Ruled}
 use Rattle.rules.specs.Languages.{Sight, In, part}
 use Rattle.rules.specs.Readings.{Reading, Reads, stretch}
 use Rattle.policies.specs.Orders.{Order}
-use Rattle.matcher.specs.Sizes.{Stands, Sized}
+use Rattle.matcher.specs.Sizes.{Stands}
 use Rattle.matcher.specs.Unpacking.{cell, unpacked}
-use Rattle.matcher.specs.Benches.{Room, Sound, Marked, Grown, AtLeast, Held, Right}
+use Rattle.matcher.specs.Benches.{Sound, Marked, Grown, AtLeast, Held, Right}
 
 -- r says whether the word is in the tree's language
 pub record Says (s : Tree) (x : List Sight) (r : Bool) : Type 0 where
   pub has : r ≡ true → In s x
   pub lacks : r ≡ false → In s x → ⊥
-
--- a node and a stretch that can be asked for
-pub record Asked (rs : List Row) (table : List ℕ) (n : ℕ) (bs : List ℕ) (m i j : ℕ) : Type 0 where
-  pub tree : Ruled rs
-  pub room : Room (length rs) n bs
-  pub sizes : Sized rs table
-  pub inside : m < length rs
-  pub start : i ≤ j
-  pub end : j ≤ n
 
 -- every split of i to j that the nodes p and q can have is one from a and below b
 pub record Reach (rs : List Row) (p q i j a b : ℕ) : Type 0 where
@@ -118,8 +108,3 @@ pub record BestBelow (above : Order) (rs : List Row) (w : List Sight) (n : ℕ) 
 -- x is the reading that the bench holds for node m on the stretch by code r
 abbrev pub Shows : List Row → ℕ → List ℕ → ℕ → ℕ → ℕ → ℕ → Reading → Type 0
 Shows rs n bs m i j r x = (s : Tree) → Stands rs m s → x ≡ unpacked n bs s m (stretch i j) r
-
--- the choice of a split, at split k: r is the best code whatever name made the bench ready, and x is its reading where it is shown
-pub record Choosing (above : Order) (rs : List Row) (n : ℕ) (bs : List ℕ) (m q i j k r : ℕ) (shown : Bool) (x : Reading) : Type 0 where
-  pub best : (w : List Sight) → Ready above rs w n bs m q i j → BestBelow above rs w n bs m q i j k r
-  pub shows : (r ≢ 0) → shown ≡ true → Shows rs n bs m i j r x

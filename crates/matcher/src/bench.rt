@@ -1,128 +1,118 @@
-ghost use Rattle.std.specs.Prelude.{◌≡◌, ℕ, ◌<◌, ◌≤◌, true, false, length, ◌≢◌, slice_index, slice_set};
-ghost use Rattle.matcher.specs.Unpacking.{place as Place, cell as Cell};
-ghost use Rattle.matcher.specs.Benches.{Room};
+ghost use Rattle.std.specs.Prelude.{◌≡◌, ◌<◌, ◌≤◌, true, false, length, ◌≢◌, slice_set};
+ghost use Rattle.matcher.specs.Cells.{cell_byte, CellOf};
+ghost use Rattle.matcher.specs.Frames.{Laid, Blank, On, spot_cell, spot_place};
 ghost use Rattle.matcher.specs.States.{BothCoded};
 
-// What a cell holds besides codes: nothing known, the node has the stretch, the node lacks it.
-pub(crate) const UNKNOWN: u8 = 0;
+use crate::frame::{Frame, Spot};
 
-pub(crate) const HAS: u8 = 254;
-
-pub(crate) const LACKS: u8 = 255;
-
-// Where the cell of a node and a stretch stands, for a name of n symbols.
-pub(crate) fn place(n: usize, node: usize, i: usize, j: usize) -> usize
-    requires { (n ≤ 120) × ((node < 64) × ((i ≤ n) × (j ≤ n))) }
-    ensures { result ≡ Place n node i j }
-{
-    let wide = n + 1;
-    (node * wide + i) * wide + j
+// What a cell holds: nothing known, that its node has its stretch or lacks it, or the code of the best reading.
+#[derive(Clone, Copy, PartialEq, Eq)]
+pub(crate) enum Cell {
+    Unknown,
+    Has,
+    Lacks,
+    Code(u8),
 }
 
-pub(crate) fn look(nodes: usize, bench: &[u8], n: usize, node: usize, i: usize, j: usize) -> u8
-    requires room { Room nodes n bench.now }
-    requires inside { node < nodes }
-    requires start { i ≤ n }
-    requires end { j ≤ n }
-    ensures { result ≡ Cell n bench.now node i j }
-{
-    bench[place(n, node, i, j)]
-}
+impl From<u8> for Cell {
+    ghost from_gives = { CellOf };
 
-// Whether a cell holds a code.
-pub(crate) fn is_code(cell: u8) -> bool
-    ensures some { result ≡ true → 0 < cell }
-    ensures small { result ≡ true → cell < 254 }
-    ensures no { result ≡ false → 0 < cell → cell < 254 → ⊥ }
-{
-    cell > UNKNOWN && cell < HAS
-}
-
-// Whether the bench has codes for the first node from i to k and for the second from k to j.
-pub(crate) fn both_coded(
-    nodes: usize,
-    bench: &[u8],
-    n: usize,
-    first: usize,
-    second: usize,
-    i: usize,
-    k: usize,
-    j: usize,
-) -> bool
-    requires room { Room nodes n bench.now }
-    requires first { first < nodes }
-    requires second { second < nodes }
-    requires start { i ≤ n }
-    requires middle { k ≤ n }
-    requires end { j ≤ n }
-    ensures yes { result ≡ true → BothCoded n bench.now first second i k j }
-    ensures no { result ≡ false → BothCoded n bench.now first second i k j → ⊥ }
-{
-    if !is_code(look(nodes, bench, n, first, i, k)) {
-        return false;
-    }
-    is_code(look(nodes, bench, n, second, k, j))
-}
-
-// Writes the mark of what was found, where nothing is known yet.
-pub(crate) fn mark(
-    nodes: usize,
-    bench: &mut [u8],
-    n: usize,
-    node: usize,
-    i: usize,
-    j: usize,
-    found: bool,
-)
-    requires room { Room nodes n bench.old }
-    requires inside { node < nodes }
-    requires start { i ≤ n }
-    requires end { j ≤ n }
-    ensures known { (Cell n bench.old node i j ≢ 0) → bench.new ≡ bench.old }
-    ensures yes { Cell n bench.old node i j ≡ 0 → found ≡ true → bench.new ≡ slice_set bench.old (Place n node i j) 254 }
-    ensures no { Cell n bench.old node i j ≡ 0 → found ≡ false → bench.new ≡ slice_set bench.old (Place n node i j) 255 }
-{
-    let at = place(n, node, i, j);
-    if bench[at] != UNKNOWN {
-        return;
-    }
-    if found {
-        bench[at] = HAS;
-    } else {
-        bench[at] = LACKS;
+    fn from(byte: u8) -> Cell {
+        match byte {
+            0 => Cell::Unknown,
+            254 => Cell::Has,
+            255 => Cell::Lacks,
+            code => Cell::Code(code),
+        }
     }
 }
 
-// Writes the code of a stretch, unless the bench has one.
-pub(crate) fn put(
-    nodes: usize,
-    bench: &mut [u8],
-    n: usize,
-    node: usize,
-    i: usize,
-    j: usize,
-    code: u8,
-)
-    requires room { Room nodes n bench.old }
-    requires inside { node < nodes }
-    requires start { i ≤ n }
-    requires end { j ≤ n }
-    ensures known { 0 < Cell n bench.old node i j → Cell n bench.old node i j < 254 → bench.new ≡ bench.old }
-    ensures fresh { (0 < Cell n bench.old node i j → Cell n bench.old node i j < 254 → ⊥) → bench.new ≡ slice_set bench.old (Place n node i j) code }
-{
-    let at = place(n, node, i, j);
-    if is_code(bench[at]) {
-        return;
+impl Cell {
+    fn byte(self) -> u8
+        ensures { result ≡ cell_byte self }
+    {
+        match self {
+            Cell::Unknown => 0,
+            Cell::Has => 254,
+            Cell::Lacks => 255,
+            Cell::Code(code) => code,
+        }
     }
-    bench[at] = code;
 }
 
-// Nothing is known of the first cells.
-pub(crate) fn wipe(bench: &mut [u8], count: usize)
-    requires { count ≤ length bench.old }
-    ensures { (a : ℕ) → a < count → slice_index bench.new a ≡ 0 }
-{
-    for at in 0..count {
-        bench[at] = UNKNOWN;
+impl<'a> Frame<'a> {
+    // Where the cell of a spot stands.
+    fn place(&self, spot: Spot) -> usize
+        requires { On self.now spot }
+        ensures { result ≡ spot_place self.now spot }
+    {
+        let wide = self.symbols + 1;
+        (spot.node * wide + spot.start) * wide + spot.end
+    }
+
+    pub(crate) fn byte(&self, bench: &[u8], spot: Spot) -> u8
+        requires room { Laid self.now bench.now }
+        requires on { On self.now spot }
+        ensures { result ≡ spot_cell self.now bench.now spot }
+    {
+        bench[self.place(spot)]
+    }
+
+    pub(crate) fn look(&self, bench: &[u8], spot: Spot) -> Cell
+        requires room { Laid self.now bench.now }
+        requires on { On self.now spot }
+        ensures { CellOf (spot_cell self.now bench.now spot) result }
+    {
+        Cell::from(self.byte(bench, spot))
+    }
+
+    // Lets nothing be known of any spot.
+    pub(crate) fn wipe(&self, bench: &mut [u8])
+        requires { Laid self.now bench.old }
+        ensures { Blank self.now bench.new }
+    {
+        let wide = self.symbols + 1;
+        let cells = self.rows().len() * wide * wide;
+        bench[..cells].fill(Cell::Unknown.byte());
+    }
+
+    // Writes the mark of what was found, where nothing is known yet.
+    pub(crate) fn mark(&self, bench: &mut [u8], spot: Spot, found: bool)
+        requires room { Laid self.now bench.old }
+        requires on { On self.now spot }
+        ensures known { (spot_cell self.now bench.old spot ≢ 0) → bench.new ≡ bench.old }
+        ensures yes { spot_cell self.now bench.old spot ≡ 0 → found ≡ true → bench.new ≡ slice_set bench.old (spot_place self.now spot) 254 }
+        ensures no { spot_cell self.now bench.old spot ≡ 0 → found ≡ false → bench.new ≡ slice_set bench.old (spot_place self.now spot) 255 }
+    {
+        if self.look(bench, spot) == Cell::Unknown {
+            let cell = if found { Cell::Has } else { Cell::Lacks };
+            bench[self.place(spot)] = cell.byte();
+        }
+    }
+
+    // Writes the code of a spot, unless the bench has one.
+    pub(crate) fn put(&self, bench: &mut [u8], spot: Spot, code: u8)
+        requires room { Laid self.now bench.old }
+        requires on { On self.now spot }
+        ensures known { 0 < spot_cell self.now bench.old spot → spot_cell self.now bench.old spot < 254 → bench.new ≡ bench.old }
+        ensures fresh { (0 < spot_cell self.now bench.old spot → spot_cell self.now bench.old spot < 254 → ⊥) → bench.new ≡ slice_set bench.old (spot_place self.now spot) code }
+    {
+        match self.look(bench, spot) {
+            Cell::Code(_) => {}
+            _ => bench[self.place(spot)] = code,
+        }
+    }
+
+    // Whether the bench has codes for both halves of a split.
+    pub(crate) fn both_coded(&self, bench: &[u8], first: Spot, second: Spot) -> bool
+        requires room { Laid self.now bench.now }
+        requires first { On self.now first }
+        requires second { On self.now second }
+        requires meet { first.end ≡ second.start }
+        ensures yes { result ≡ true → BothCoded self.now.symbols bench.now first.node second.node first.start first.end second.end }
+        ensures no { result ≡ false → BothCoded self.now.symbols bench.now first.node second.node first.start first.end second.end → ⊥ }
+    {
+        matches!(self.look(bench, first), Cell::Code(_))
+            && matches!(self.look(bench, second), Cell::Code(_))
     }
 }

@@ -1,11 +1,12 @@
 #![tactic(auto)]
 
 mod bench;
+mod frame;
 pub mod matching;
 mod membership;
 mod ranking;
-mod sizes;
+mod search;
 mod solving;
 mod unpack;
 
-pub use matching::{Matched, best_reading};
+pub use matching::{Unmatched, best_reading};

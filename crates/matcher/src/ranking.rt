@@ -1,154 +1,119 @@
-ghost use Rattle.std.specs.Prelude.{◌≡◌, ◌+◌, ◌<◌, ◌≤◌, true, ◌⊎◌, List, length, take, ◌≢◌, slice_index, slice_index_or};
-ghost use Rattle.rules.specs.Trees.{row as Line};
-ghost use Rattle.rules.specs.RuleRows.{Ruled};
-ghost use Rattle.rules.specs.Languages.{Sight};
-ghost use Rattle.matcher.specs.Sizes.{Sized};
-ghost use Rattle.matcher.specs.Benches.{Room};
-ghost use Rattle.matcher.specs.States.{Keeps, Coded, Ready, Shows};
+ghost use Rattle.std.specs.Prelude.{◌≡◌, ◌⊎◌, length, slice_index, take};
+ghost use Rattle.matcher.specs.Frames.{frame_kind, Laid, On};
+ghost use Rattle.matcher.specs.Leaders.{leader_code, LeaderShown};
+ghost use Rattle.matcher.specs.Searches.{word, KeepsAt, CodedAt, ReadyAt, ShowsAt};
 
-use crate::bench::both_coded;
-use crate::membership::reach;
-use crate::unpack::unpack;
+use crate::frame::Spot;
+use crate::search::Search;
 use policies::Policy;
-use rules::Row;
-use std::cmp::Ordering;
+use rules::Alphabet;
 
-// Room for two readings that are compared; `shown` says whether `best` has the reading of the best code so far.
+// Room for two readings that are compared.
 #[derive(Drop)]
 pub(crate) struct Pad {
-    pub(crate) shown: bool,
     pub(crate) best: [Option<(usize, usize)>; 64],
     pub(crate) next: [Option<(usize, usize)>; 64],
 }
 
-// Unpacks the reading of a code, unless it is there.
-fn show(
-    rows: &[Row],
-    table: &[u8],
-    bench: &[u8],
-    n: usize,
-    node: usize,
-    stretch: (usize, usize),
-    code: u8,
-    shown: bool,
-    out: &mut [Option<(usize, usize)>],
-)
-    requires tree { Ruled rows.now }
-    requires room { Room (length rows.now) n bench.now }
-    requires table { Sized rows.now table.now }
-    requires inside { node < length rows.now }
-    requires start { stretch.0 ≤ stretch.1 }
-    requires end { stretch.1 ≤ n }
-    requires long { length out.old ≡ slice_index table.now node }
-    requires there { shown ≡ true → Shows rows.now n bench.now node stretch.0 stretch.1 code out.old }
-    ensures { Shows rows.now n bench.now node stretch.0 stretch.1 code out.new }
-{
-    if !shown {
-        unpack(rows, table, bench, n, node, Some(stretch), code, out);
+// The best code so far: alone, or compared already, so that the pad shows its reading.
+#[derive(Clone, Copy)]
+pub(crate) enum Leader {
+    Alone(u8),
+    Shown(u8),
+}
+
+impl Leader {
+    pub(crate) fn code(self) -> u8
+        ensures { result ≡ leader_code self }
+    {
+        match self {
+            Leader::Alone(code) => code,
+            Leader::Shown(code) => code,
+        }
     }
 }
 
-// Of two codes of a node's stretch, the one whose reading outranks; 0 is no code.
-pub(crate) fn better<P: Policy>(
-    policy: &P,
-    rows: &[Row],
-    table: &[u8],
-    bench: &[u8],
-    n: usize,
-    node: usize,
-    stretch: (usize, usize),
-    best: u8,
-    next: u8,
-    pad: &mut Pad,
-) -> u8
-    requires tree { Ruled rows.now }
-    requires room { Room (length rows.now) n bench.now }
-    requires table { Sized rows.now table.now }
-    requires inside { node < length rows.now }
-    requires start { stretch.0 ≤ stretch.1 }
-    requires end { stretch.1 ≤ n }
-    requires shows { (best ≢ 0) → pad.old.shown ≡ true → Shows rows.now n bench.now node stretch.0 stretch.1 best (take (slice_index table.now node) pad.old.best) }
-    ensures either { (result ≡ best) ⊎ (result ≡ next) }
-    ensures none { best ≡ 0 → result ≡ next }
-    ensures ranked { Keeps (P.Policy.above policy.now) rows.now n bench.now node stretch.0 stretch.1 best next result }
-    ensures shows { pad.new.shown ≡ true → Shows rows.now n bench.now node stretch.0 stretch.1 result (take (slice_index table.now node) pad.new.best) }
-{
-    if best == 0 {
-        pad.shown = false;
-        return next;
-    }
-    let size = table[node] as usize;
-    show(
-        rows,
-        table,
-        bench,
-        n,
-        node,
-        stretch,
-        best,
-        pad.shown,
-        &mut pad.best[..size],
-    );
-    unpack(
-        rows,
-        table,
-        bench,
-        n,
-        node,
-        Some(stretch),
-        next,
-        &mut pad.next[..size],
-    );
-    pad.shown = true;
-    match policy.rank(rows, node, &pad.best[..size], &pad.next[..size]) {
-        Ordering::Less => {
+impl<'a, A: Alphabet, P: Policy> Search<'a, A, P> {
+    // Of two codes of a spot, the one whose reading outranks.
+    pub(crate) fn better(
+        &self,
+        bench: &[u8],
+        spot: Spot,
+        leader: Leader,
+        next: u8,
+        pad: &mut Pad,
+    ) -> Leader
+        requires laid { Laid self.now.frame bench.now }
+        requires on { On self.now.frame spot }
+        requires shown { LeaderShown self.now.frame bench.now spot leader (take (slice_index self.now.frame.sizes spot.node) pad.old.best) }
+        ensures either { (leader_code result ≡ leader_code leader) ⊎ (leader_code result ≡ next) }
+        ensures ranked { KeepsAt (P.Policy.above self.now.policy.now) self.now.frame bench.now spot (leader_code leader) next (leader_code result) }
+        ensures shown { LeaderShown self.now.frame bench.now spot result (take (slice_index self.now.frame.sizes spot.node) pad.new.best) }
+    {
+        let size = self.frame.sizes[spot.node] as usize;
+        let stretch = Some((spot.start, spot.end));
+        self.lay_out(bench, spot, leader, &mut pad.best[..size]);
+        self.frame
+            .unpack(bench, spot.node, stretch, next, &mut pad.next[..size]);
+        let rows = self.frame.rows();
+        let rank = self
+            .policy
+            .rank(rows, spot.node, &pad.best[..size], &pad.next[..size]);
+        if rank.is_lt() {
             pad.best = pad.next;
-            next
+            return Leader::Shown(next);
         }
-        _ => best,
+        Leader::Shown(leader.code())
     }
-}
 
-// The code of the best split of a sequence, where the bench has the codes of every split's halves.
-pub(crate) fn best_split<P: Policy>(
-    policy: &P,
-    rows: &[Row],
-    table: &[u8],
-    bench: &[u8],
-    n: usize,
-    node: usize,
-    i: usize,
-    j: usize,
-    pad: &mut Pad,
-) -> u8
-    requires tree { Ruled rows.now }
-    requires room { Room (length rows.now) n bench.now }
-    requires table { Sized rows.now table.now }
-    requires inside { node < length rows.now }
-    requires start { i ≤ j }
-    requires end { j ≤ n }
-    requires kind { (slice_index_or rows.now node (Line 0 0 0)).kind ≡ 3 }
-    ensures { (w : List Sight) → Ready (P.Policy.above policy.now) rows.now w n bench.now node (node + 1 + slice_index table.now (node + 1)) i j → Coded (P.Policy.above policy.now) rows.now w n bench.now node i j result }
-{
-    let first = node + 1;
-    let second = first + table[first] as usize;
-    let (from, to) = reach(rows, first, second, i, j);
-    let mut best = 0;
-    for k in from..to {
-        if both_coded(rows.len(), bench, n, first, second, i, k, j) {
-            best = better(
-                policy,
-                rows,
-                table,
-                bench,
-                n,
-                node,
-                (i, j),
-                best,
-                (k - i + 1) as u8,
-                pad,
-            );
+    // Unpacks the reading of the best code so far, unless it is there.
+    fn lay_out(&self, bench: &[u8], spot: Spot, leader: Leader, out: &mut [Option<(usize, usize)>])
+        requires laid { Laid self.now.frame bench.now }
+        requires on { On self.now.frame spot }
+        requires long { length out.old ≡ slice_index self.now.frame.sizes spot.node }
+        requires shown { LeaderShown self.now.frame bench.now spot leader out.old }
+        ensures { ShowsAt self.now.frame bench.now spot (leader_code leader) out.new }
+    {
+        if let Leader::Alone(code) = leader {
+            let stretch = Some((spot.start, spot.end));
+            self.frame.unpack(bench, spot.node, stretch, code, out);
         }
     }
-    best
+
+    // The code of the best split of a sequence, where the bench has the codes of every split's halves.
+    pub(crate) fn best_split(&self, bench: &[u8], spot: Spot, pad: &mut Pad) -> u8
+        requires laid { Laid self.now.frame bench.now }
+        requires on { On self.now.frame spot }
+        requires kind { frame_kind self.now.frame spot.node ≡ 3 }
+        requires ready { ReadyAt (P.Policy.above self.now.policy.now) self.now.frame (word self.now) bench.now spot }
+        ensures { CodedAt (P.Policy.above self.now.policy.now) self.now.frame (word self.now) bench.now spot result }
+    {
+        let first = spot.node + 1;
+        let second = self.frame.second(spot.node);
+        let splits = self.frame.splits(first, second, spot.start, spot.end);
+        let mut best = None;
+        for k in splits.start..splits.end {
+            let front = Spot {
+                node: first,
+                end: k,
+                ..spot
+            };
+            let back = Spot {
+                node: second,
+                start: k,
+                ..spot
+            };
+            if self.frame.both_coded(bench, front, back) {
+                let code = (k - spot.start + 1) as u8;
+                best = Some(match best {
+                    Some(leader) => self.better(bench, spot, leader, code, pad),
+                    None => Leader::Alone(code),
+                });
+            }
+        }
+        match best {
+            Some(leader) => leader.code(),
+            None => unreachable(),
+        }
+    }
 }

@@ -1,137 +1,100 @@
-ghost use Rattle.std.specs.Prelude.{◌≡◌, ◌+◌, length, slice_index, slice_index_or};
-ghost use Rattle.rules.specs.Trees.{row as Line};
-ghost use Rattle.rules.specs.Languages.{seen};
-ghost use Rattle.matcher.specs.Benches.{Right};
-ghost use Rattle.matcher.specs.States.{Asked, Present, Prepared, Settled, Got};
+ghost use Rattle.std.specs.Prelude.{◌≡◌, ◌+◌};
+ghost use Rattle.matcher.specs.Frames.{frame_kind};
+ghost use Rattle.matcher.specs.Searches.{word, Sought, PresentAt, PreparedAt, SettledAt, GotAt};
 
-use crate::bench::{is_code, look, put};
-use crate::membership::{has, has_both, reach};
-use crate::ranking::{Pad, best_split, better};
+use crate::bench::Cell;
+use crate::frame::Spot;
+use crate::ranking::{Leader, Pad};
+use crate::search::Search;
 use policies::Policy;
-use rules::row::{CHOICE, SEQUENCE};
-use rules::{Alphabet, Row};
+use rules::{Alphabet, Kind};
 
-// Finds the code of the best reading of a stretch that the node has.
-#[cycle(solving)]
-pub(crate) fn solve<A: Alphabet, P: Policy>(
-    alphabet: &A,
-    policy: &P,
-    rows: &[Row],
-    table: &[u8],
-    bench: &mut [u8],
-    name: &[A::Symbol],
-    pad: &mut Pad,
-    node: usize,
-    i: usize,
-    j: usize,
-)
-    requires asked { Asked rows.now table.now (length name.now) bench.old node i j }
-    requires right { Right (P.Policy.above policy.now) rows.now (seen (A.Alphabet.held alphabet.now) name.now) (length name.now) bench.old }
-    requires present { Present rows.now (seen (A.Alphabet.held alphabet.now) name.now) node i j }
-    ensures { Settled (P.Policy.above policy.now) rows.now (seen (A.Alphabet.held alphabet.now) name.now) (length name.now) bench.old bench.new node i j }
-{
-    let n = name.len();
-    let known = look(rows.len(), bench, n, node, i, j);
-    if is_code(known) {
-        return;
+impl<'a, A: Alphabet, P: Policy> Search<'a, A, P> {
+    // Finds the code of the best reading of a stretch that the node has.
+    #[cycle(solving)]
+    pub(crate) fn solve(&self, bench: &mut [u8], pad: &mut Pad, spot: Spot)
+        requires sought { Sought (P.Policy.above self.now.policy.now) self.now.frame (word self.now) bench.old spot }
+        requires present { PresentAt self.now.frame (word self.now) spot }
+        ensures { SettledAt (P.Policy.above self.now.policy.now) self.now.frame (word self.now) bench.old bench.new spot }
+    {
+        if let Cell::Code(_) = self.frame.look(bench, spot) {
+            return;
+        }
+        let code = self.best_code(bench, pad, spot);
+        self.frame.put(bench, spot, code);
     }
-    let code = best_code(alphabet, policy, rows, table, bench, name, pad, node, i, j);
-    put(rows.len(), bench, n, node, i, j, code);
-}
 
-// The code of the best reading of a stretch that the node has.
-#[cycle(solving)]
-fn best_code<A: Alphabet, P: Policy>(
-    alphabet: &A,
-    policy: &P,
-    rows: &[Row],
-    table: &[u8],
-    bench: &mut [u8],
-    name: &[A::Symbol],
-    pad: &mut Pad,
-    node: usize,
-    i: usize,
-    j: usize,
-) -> u8
-    requires asked { Asked rows.now table.now (length name.now) bench.old node i j }
-    requires right { Right (P.Policy.above policy.now) rows.now (seen (A.Alphabet.held alphabet.now) name.now) (length name.now) bench.old }
-    requires present { Present rows.now (seen (A.Alphabet.held alphabet.now) name.now) node i j }
-    ensures { Got (P.Policy.above policy.now) rows.now (seen (A.Alphabet.held alphabet.now) name.now) (length name.now) bench.old bench.new node i j result }
-{
-    let kind = rows[node].kind;
-    if kind == CHOICE {
-        return best_part(alphabet, policy, rows, table, bench, name, pad, node, i, j);
+    // The code of the best reading of a stretch that the node has.
+    #[cycle(solving)]
+    fn best_code(&self, bench: &mut [u8], pad: &mut Pad, spot: Spot) -> u8
+        requires sought { Sought (P.Policy.above self.now.policy.now) self.now.frame (word self.now) bench.old spot }
+        requires present { PresentAt self.now.frame (word self.now) spot }
+        ensures { GotAt (P.Policy.above self.now.policy.now) self.now.frame (word self.now) bench.old bench.new spot result }
+    {
+        match self.frame.kind(spot.node) {
+            Kind::Choice => self.best_part(bench, pad, spot),
+            Kind::Sequence => {
+                self.solve_splits(bench, pad, spot);
+                self.best_split(bench, spot, pad)
+            }
+            _ => 1,
+        }
     }
-    if kind == SEQUENCE {
-        solve_splits(alphabet, policy, rows, table, bench, name, pad, node, i, j);
-        return best_split(policy, rows, table, bench, name.len(), node, i, j, pad);
-    }
-    1
-}
 
-// A choice: the part that is read, or the better of two.
-#[cycle(solving)]
-fn best_part<A: Alphabet, P: Policy>(
-    alphabet: &A,
-    policy: &P,
-    rows: &[Row],
-    table: &[u8],
-    bench: &mut [u8],
-    name: &[A::Symbol],
-    pad: &mut Pad,
-    node: usize,
-    i: usize,
-    j: usize,
-) -> u8
-    requires asked { Asked rows.now table.now (length name.now) bench.old node i j }
-    requires right { Right (P.Policy.above policy.now) rows.now (seen (A.Alphabet.held alphabet.now) name.now) (length name.now) bench.old }
-    requires present { Present rows.now (seen (A.Alphabet.held alphabet.now) name.now) node i j }
-    requires kind { (slice_index_or rows.now node (Line 0 0 0)).kind ≡ 2 }
-    ensures { Got (P.Policy.above policy.now) rows.now (seen (A.Alphabet.held alphabet.now) name.now) (length name.now) bench.old bench.new node i j result }
-{
-    let first = node + 1;
-    let other = first + table[first] as usize;
-    if !has(alphabet, rows, table, bench, name, first, i, j) {
-        solve(alphabet, policy, rows, table, bench, name, pad, other, i, j);
-        return 2;
+    // A choice: the part that is read, or the better of two.
+    #[cycle(solving)]
+    fn best_part(&self, bench: &mut [u8], pad: &mut Pad, spot: Spot) -> u8
+        requires sought { Sought (P.Policy.above self.now.policy.now) self.now.frame (word self.now) bench.old spot }
+        requires present { PresentAt self.now.frame (word self.now) spot }
+        requires kind { frame_kind self.now.frame spot.node ≡ 2 }
+        ensures { GotAt (P.Policy.above self.now.policy.now) self.now.frame (word self.now) bench.old bench.new spot result }
+    {
+        let first = Spot {
+            node: spot.node + 1,
+            ..spot
+        };
+        let second = Spot {
+            node: self.frame.second(spot.node),
+            ..spot
+        };
+        if !self.has(bench, first) {
+            self.solve(bench, pad, second);
+            return 2;
+        }
+        if !self.has(bench, second) {
+            self.solve(bench, pad, first);
+            return 1;
+        }
+        self.solve(bench, pad, first);
+        self.solve(bench, pad, second);
+        self.better(bench, spot, Leader::Alone(1), 2, pad).code()
     }
-    if !has(alphabet, rows, table, bench, name, other, i, j) {
-        solve(alphabet, policy, rows, table, bench, name, pad, first, i, j);
-        return 1;
-    }
-    solve(alphabet, policy, rows, table, bench, name, pad, first, i, j);
-    solve(alphabet, policy, rows, table, bench, name, pad, other, i, j);
-    pad.shown = false;
-    let n = name.len();
-    better(policy, rows, table, bench, n, node, (i, j), 1, 2, pad)
-}
 
-// Finds the codes of both halves of every split of a sequence that has both.
-#[cycle(solving)]
-fn solve_splits<A: Alphabet, P: Policy>(
-    alphabet: &A,
-    policy: &P,
-    rows: &[Row],
-    table: &[u8],
-    bench: &mut [u8],
-    name: &[A::Symbol],
-    pad: &mut Pad,
-    node: usize,
-    i: usize,
-    j: usize,
-)
-    requires asked { Asked rows.now table.now (length name.now) bench.old node i j }
-    requires right { Right (P.Policy.above policy.now) rows.now (seen (A.Alphabet.held alphabet.now) name.now) (length name.now) bench.old }
-    requires kind { (slice_index_or rows.now node (Line 0 0 0)).kind ≡ 3 }
-    ensures { Prepared (P.Policy.above policy.now) rows.now (seen (A.Alphabet.held alphabet.now) name.now) (length name.now) bench.old bench.new node (node + 1 + slice_index table.now (node + 1)) i j (j + 1) }
-{
-    let first = node + 1;
-    let other = first + table[first] as usize;
-    let (from, to) = reach(rows, first, other, i, j);
-    for k in from..to {
-        if has_both(alphabet, rows, table, bench, name, first, other, i, k, j) {
-            solve(alphabet, policy, rows, table, bench, name, pad, first, i, k);
-            solve(alphabet, policy, rows, table, bench, name, pad, other, k, j);
+    // Finds the codes of both halves of every split of a sequence that has both.
+    #[cycle(solving)]
+    fn solve_splits(&self, bench: &mut [u8], pad: &mut Pad, spot: Spot)
+        requires sought { Sought (P.Policy.above self.now.policy.now) self.now.frame (word self.now) bench.old spot }
+        requires kind { frame_kind self.now.frame spot.node ≡ 3 }
+        ensures { PreparedAt (P.Policy.above self.now.policy.now) self.now.frame (word self.now) bench.old bench.new spot (spot.end + 1) }
+    {
+        let first = spot.node + 1;
+        let second = self.frame.second(spot.node);
+        let splits = self.frame.splits(first, second, spot.start, spot.end);
+        for k in splits.start..splits.end {
+            let front = Spot {
+                node: first,
+                end: k,
+                ..spot
+            };
+            let back = Spot {
+                node: second,
+                start: k,
+                ..spot
+            };
+            if self.has_both(bench, front, back) {
+                self.solve(bench, pad, front);
+                self.solve(bench, pad, back);
+            }
         }
     }
 }

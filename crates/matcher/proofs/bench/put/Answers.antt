@@ -1,9 +1,0 @@
-use Rattle.std.proofs.Common.{arith}
-use Rattle.matcher.proofs.Places.{place_in}
-use Rattle.matcher.proofs.bench.put.Goals as goal
-
-pub bounds-bench-at : goal.bounds-bench-at
-bounds-bench-at c = omega (arith, place_in c.args.nodes c.args.n c.args.bench.now c.args.node c.args.i c.args.j c.requires.room c.requires.inside c.requires.start c.requires.end)
-
-pub bounds-bench-at-2 : goal.bounds-bench-at-2
-bounds-bench-at-2 c = omega (arith, place_in c.args.nodes c.args.n c.args.bench.now c.args.node c.args.i c.args.j c.requires.room c.requires.inside c.requires.start c.requires.end)

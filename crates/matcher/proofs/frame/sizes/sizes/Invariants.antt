@@ -1,0 +1,5 @@
+use Rattle.matcher.specs.Sizes.{SizedFrom}
+use Rattle.matcher.proofs.frame.sizes.sizes.Given as goal
+
+abbrev pub invariant-loop-node : goal.invariant-loop-node
+invariant-loop-node l = SizedFrom l.rows l.node l.sizes

@@ -1,0 +1,92 @@
+ghost use Rattle.std.specs.Prelude.{◌≡◌, ◌+◌, ◌<◌, ◌≤◌, length, slice_index, slice_index_or};
+ghost use Rattle.rules.specs.Kinds.{kind_number};
+ghost use Rattle.rules.specs.Trees.{Tree, row as Line, size};
+ghost use Rattle.rules.specs.RuleRows.{Ruled, rule_rows};
+ghost use Rattle.matcher.specs.Frames.{frame_rows, frame_kind, second_node};
+ghost use Rattle.matcher.specs.Sizes.{Stands, Sized, SizedFrom, Paired, PairRoom};
+
+use super::Frame;
+use rules::{Kind, Row, Rule};
+
+// The kind of a rule's node.
+fn kind_at(rows: &[Row], node: usize) -> Kind
+    requires tree { Ruled rows.now }
+    requires inside { node < length rows.now }
+    ensures { kind_number result ≡ (slice_index_or rows.now node (Line 0 0 0)).kind }
+{
+    match Kind::try_from(rows[node].kind) {
+        Ok(kind) => kind,
+        Err(_) => unreachable(),
+    }
+}
+
+// The size of the tree at a node, from the sizes of those behind it.
+fn size_at(rows: &[Row], sizes: &[u8], node: usize) -> u8
+    requires tree { Ruled rows.now }
+    requires few { length rows.now ≤ 64 }
+    requires inside { node < length rows.now }
+    requires behind { SizedFrom rows.now (node + 1) sizes.now }
+    ensures { (s : Tree) → Stands rows.now node s → result ≡ size s }
+{
+    match kind_at(rows, node) {
+        Kind::Empty => 1,
+        Kind::Leaf => 1,
+        Kind::Star => 1 + sizes[node + 1],
+        Kind::Choice | Kind::Sequence => {
+            let first = sizes[node + 1];
+            1 + first + sizes[node + 1 + first as usize]
+        }
+    }
+}
+
+// The size of each node's tree.
+fn sizes(rows: &[Row]) -> [u8; 64]
+    requires tree { Ruled rows.now }
+    requires few { length rows.now ≤ 64 }
+    ensures { Sized rows.now result }
+{
+    let mut sizes = [0; 64];
+    for node in (0..rows.len()).rev() {
+        sizes[node] = size_at(rows, &sizes, node);
+    }
+    sizes
+}
+
+impl<'a> Frame<'a> {
+    pub(crate) fn new(rule: &'a Rule, symbols: usize) -> Frame<'a>
+        requires { symbols ≤ 120 }
+        ensures rows { frame_rows result ≡ rule_rows rule.now }
+        ensures symbols { result.symbols ≡ symbols }
+    {
+        let sizes = sizes(rule.rows());
+        Frame {
+            rule,
+            sizes,
+            symbols,
+        }
+    }
+
+    pub(crate) fn rows(&self) -> &[Row]
+        ensures { result.now ≡ frame_rows self.now }
+    {
+        self.rule.rows()
+    }
+
+    // The kind of a node.
+    pub(crate) fn kind(&self, node: usize) -> Kind
+        requires { node < length (frame_rows self.now) }
+        ensures { kind_number result ≡ frame_kind self.now node }
+    {
+        kind_at(self.rule.rows(), node)
+    }
+
+    // The node of the second part of a choice or a sequence.
+    pub(crate) fn second(&self, node: usize) -> usize
+        requires inside { node < length (frame_rows self.now) }
+        requires pair { Paired (frame_kind self.now node) }
+        ensures is { result ≡ second_node self.now node }
+        ensures within { PairRoom (frame_rows self.now) self.now.sizes node }
+    {
+        node + 1 + self.sizes[node + 1] as usize
+    }
+}
