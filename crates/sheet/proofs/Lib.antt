@@ -10,3 +10,4 @@ mod Tellings
 mod Asking
 mod Turns
 pub mod LockedRules
+pub mod Governing

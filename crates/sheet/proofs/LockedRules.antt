@@ -13,4 +13,4 @@ all_ruled (x ∷ hs) zero h = held_ruled x
 all_ruled (x ∷ hs) (suc k) h = all_ruled hs k (omega arith)
 
 pub locked_ruled : {A P : Type 0} (s : LockedSheet A P) (k : ℕ) → k < length (locked s) → Ruled (at (locked s) k)
-locked_ruled s k h = all_ruled (vec_items s.rules) k h
+locked_ruled s k h = all_ruled (vec_items s.kept.rules) k h

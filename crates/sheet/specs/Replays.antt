@@ -54,18 +54,18 @@ module _ {A P : Type 0} where
   rules_in (Locked s) = locked s
 
   abbrev pub alphabet_in : Sheet A P → A
-  alphabet_in (Open s) = s.alphabet
-  alphabet_in (Locked s) = s.alphabet
+  alphabet_in (Open s) = s.kept.alphabet
+  alphabet_in (Locked s) = s.kept.alphabet
 
   abbrev pub policy_in : Sheet A P → P
-  policy_in (Open s) = s.policy
-  policy_in (Locked s) = s.policy
+  policy_in (Open s) = s.kept.policy
+  policy_in (Locked s) = s.kept.policy
 
 -- what a replay of calls, and then a question, gives back: not allowed exactly where the calls are not, or lead to an open sheet; else, for a sheet that held nothing, the law of its answer
 abbrev pub Replay : {A P S : Type 0} → (A → ℕ → ℕ → Bool) → (A → ℕ → ℕ → S → Bool) → (P → Order) → A → P → Rules → List (Made S) → Asked S → Asked S → Replayed A P → Type 0
 Replay admitted holds above alphabet policy rules calls q q' (NotAllowed s) = leads_locked true (map meant calls) ≡ false
 Replay admitted holds above alphabet policy rules calls q q' (AnsweredBy s a) =
     (leads_locked true (map meant calls) ≡ true)
-    × (s.alphabet ≡ alphabet) × (s.policy ≡ policy)
+    × (s.kept.alphabet ≡ alphabet) × (s.kept.policy ≡ policy)
     × (locked s ≡ held_from (admitted alphabet) rules (map meant calls))
     × (rules ≡ [] → Law (admitted alphabet) (holds alphabet) (above policy) (map meant calls) (asked q) (told (locked s) q' a))

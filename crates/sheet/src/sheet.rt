@@ -7,9 +7,9 @@ mod locked;
 pub mod open;
 pub mod questions;
 
-// A sheet that takes rules. Room for sixteen is reserved as it is opened.
+// What a sheet keeps from its opening on: an alphabet, a policy and at most sixteen rules, for which room is reserved.
 #[derive(Drop)]
-pub struct OpenSheet<A, P> {
+pub struct Kept<A, P> {
     alphabet: A,
     policy: P,
     rules: Vec<Held>,
@@ -17,12 +17,14 @@ pub struct OpenSheet<A, P> {
     ghost room: { 16 ≤ vec_capacity rules },
 }
 
+// A sheet that takes rules.
+#[derive(Drop)]
+pub struct OpenSheet<A, P> {
+    kept: Kept<A, P>,
+}
+
 // A sheet that answers questions.
 #[derive(Drop)]
 pub struct LockedSheet<A, P> {
-    alphabet: A,
-    policy: P,
-    rules: Vec<Held>,
-    ghost few: { vec_len rules ≤ 16 },
-    ghost room: { 16 ≤ vec_capacity rules },
+    kept: Kept<A, P>,
 }

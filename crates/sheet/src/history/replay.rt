@@ -12,7 +12,7 @@ use rules::Alphabet;
 impl<A: Alphabet, P: Policy> LockedSheet<A, P> {
     // Asks the question, with what it owns lent.
     fn ask(&self, question: &mut Question<A::Symbol>) -> Answer
-        ensures answered { Answered (A.Alphabet.held self.now.alphabet) (P.Policy.above self.now.policy) (locked self.now) (asked question.old) (told (locked self.now) question.new result) }
+        ensures answered { Answered (A.Alphabet.held self.now.kept.alphabet) (P.Policy.above self.now.kept.policy) (locked self.now) (asked question.old) (told (locked self.now) question.new result) }
     {
         match question {
             Question::Spans(place, name, bench, report) => {
@@ -95,9 +95,9 @@ fn run<A: Alphabet, P: Policy>(
     calls: &mut [Call<A::Symbol>],
 ) -> LockedSheet<A, P>
     requires { leads_locked true (map meant calls.old) ≡ true }
-    ensures rules { locked result ≡ held_from (A.Alphabet.admitted sheet.alphabet) (holding sheet) (map meant calls.old) }
-    ensures alphabet { result.alphabet ≡ sheet.alphabet }
-    ensures policy { result.policy ≡ sheet.policy }
+    ensures rules { locked result ≡ held_from (A.Alphabet.admitted sheet.kept.alphabet) (holding sheet) (map meant calls.old) }
+    ensures alphabet { result.kept.alphabet ≡ sheet.kept.alphabet }
+    ensures policy { result.kept.policy ≡ sheet.kept.policy }
 {
     let mut state = Sheet::Open(sheet);
     for call in calls.iter_mut() {
@@ -115,7 +115,7 @@ pub fn replay<A: Alphabet, P: Policy>(
     calls: &mut [Call<A::Symbol>],
     question: &mut Question<A::Symbol>,
 ) -> Replayed<A, P>
-    ensures { Replay A.Alphabet.admitted A.Alphabet.held P.Policy.above sheet.alphabet sheet.policy (holding sheet) calls.old question.old question.new result }
+    ensures { Replay A.Alphabet.admitted A.Alphabet.held P.Policy.above sheet.kept.alphabet sheet.kept.policy (holding sheet) calls.old question.old question.new result }
 {
     if !lead_locked(calls) {
         return Replayed::NotAllowed(sheet);

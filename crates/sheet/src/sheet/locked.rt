@@ -9,7 +9,7 @@ use super::LockedSheet;
 use super::checks::{check_bench, check_name, check_room};
 use crate::held::Held;
 use crate::summary::Summary;
-use matcher::matching::{Matched, best_reading};
+use matcher::matching::{Unmatched, best_reading};
 use policies::Policy;
 use rules::{Alphabet, Denial};
 
@@ -18,10 +18,7 @@ impl<A, P> LockedSheet<A, P> {
     fn check_place(&self, place: usize) -> Result<&Held, Denial>
         ensures { MatchResult result (λ h. (place_met (locked self.now) place ≡ None) × (held_rows h.now ≡ at (locked self.now) place)) (λ d. place_met (locked self.now) place ≡ Some (number d)) }
     {
-        if place >= self.rules.len() {
-            return Err(Denial::NoSuchPlace);
-        }
-        Ok(&self.rules[place])
+        self.kept.rules.get(place).ok_or(Denial::NoSuchPlace)
     }
 
     // The checks 7 to 10 of a spans, with a bench and a report of these lengths.
@@ -68,47 +65,39 @@ impl<A: Alphabet, P: Policy> LockedSheet<A, P> {
         bench: &mut [u8],
         report: &mut [Option<(usize, usize)>],
     ) -> Result<(), Denial>
-        ensures { SpansAnswer (P.Policy.above self.now.policy) (seen (A.Alphabet.held self.now.alphabet) name.now) (locked self.now) place bench.old bench.new report.old report.new result }
+        ensures { SpansAnswer (P.Policy.above self.now.kept.policy) (seen (A.Alphabet.held self.now.kept.alphabet) name.now) (locked self.now) place bench.old bench.new report.old report.new result }
     {
         let held = self.check_spans(place, name.len(), bench.len(), report.len())?;
-        if !held.sets().accepts(&self.alphabet, name) {
+        if !held.reads(&self.kept.alphabet, name) {
             return Err(Denial::NotRead);
         }
         match best_reading(
-            &self.alphabet,
-            &self.policy,
+            &self.kept.alphabet,
+            &self.kept.policy,
             held.rule(),
             name,
             bench,
             report,
         ) {
-            Matched::Found => Ok(()),
-            Matched::NotRead => Err(Denial::NotRead),
-            Matched::Unfit => unreachable(),
+            Ok(()) => Ok(()),
+            Err(unmatched) => match unmatched {
+                Unmatched::NotRead => Err(Denial::NotRead),
+                Unmatched::Unfit => unreachable(),
+            },
         }
     }
 }
 
 impl<A: Alphabet, P> LockedSheet<A, P> {
-    // Whether the rule at a place reads the name.
-    fn reads_at(&self, place: usize, name: &[A::Symbol]) -> bool
-        requires { place < vec_len self.now.rules }
-        ensures yes { result ≡ true → Read (at (locked self.now) place) (seen (A.Alphabet.held self.now.alphabet) name.now) }
-        ensures no { result ≡ false → Read (at (locked self.now) place) (seen (A.Alphabet.held self.now.alphabet) name.now) → ⊥ }
-    {
-        self.rules[place].sets().accepts(&self.alphabet, name)
-    }
-
     // The lowest place whose rule reads the name.
     pub(crate) fn lowest(&self, name: &[A::Symbol]) -> Result<usize, Denial>
-        ensures { GovernAnswer (locked self.now) (seen (A.Alphabet.held self.now.alphabet) name.now) result }
+        ensures { GovernAnswer (locked self.now) (seen (A.Alphabet.held self.now.kept.alphabet) name.now) result }
     {
         check_name(name.len())?;
-        for place in 0..self.rules.len() {
-            if self.reads_at(place, name) {
-                return Ok(place);
-            }
-        }
-        Err(Denial::NotRead)
+        self.kept
+            .rules
+            .iter()
+            .position(|held| held.reads(&self.kept.alphabet, name))
+            .ok_or(Denial::NotRead)
     }
 }

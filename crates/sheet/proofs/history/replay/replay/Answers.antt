@@ -10,5 +10,5 @@ returns g c = (
   c.run-sheet.ensures.alphabet,
   c.run-sheet.ensures.policy,
   c.run-sheet.ensures.rules,
-  λ e. lawful_after g.A.Alphabet.admitted g.A.Alphabet.held g.P.Policy.above g.met.P.Policy.decided c.args.sheet.alphabet c.run-sheet.result.alphabet c.args.sheet.policy c.run-sheet.result.policy (map meant c.args.calls.now) (holding c.args.sheet) (locked c.run-sheet.result) c.run-sheet.ensures.alphabet c.run-sheet.ensures.policy c.run-sheet.ensures.rules e (asked c.args.question.now) _ c.ask-answer.ensures.answered,
+  λ e. lawful_after g.A.Alphabet.admitted g.A.Alphabet.held g.P.Policy.above g.met.P.Policy.decided c.args.sheet.kept.alphabet c.run-sheet.result.kept.alphabet c.args.sheet.kept.policy c.run-sheet.result.kept.policy (map meant c.args.calls.now) (holding c.args.sheet) (locked c.run-sheet.result) c.run-sheet.ensures.alphabet c.run-sheet.ensures.policy c.run-sheet.ensures.rules e (asked c.args.question.now) _ c.ask-answer.ensures.answered,
 )

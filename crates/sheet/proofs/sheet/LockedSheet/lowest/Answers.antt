@@ -1,29 +1,19 @@
-use Rattle.std.proofs.Common.{◌≡◌, length, vec_items, refl, ◌∙◌, arith, below_more}
-use Rattle.std.proofs.lemmas.Result.{err_from_is_err_and}
-use Rattle.sheet.specs.Questions.{name_met}
-use Rattle.sheet.specs.Sheets.{locked}
-use Rattle.sheet.proofs.ChangeFacts.{many_held}
-use Rattle.sheet.proofs.QuestionFacts.{denied_by, passed, govern_by}
+use Rattle.std.proofs.Common.{ℕ, List, length, map, None, Result, sym, subst, rules, tests}
+use Rattle.std.proofs.lemmas.Iterator.{IsFirst-from_position, YieldsList-from_slice}
+use Rattle.rules.specs.declared.denial.Denial.{Denial}
+use Rattle.rules.specs.Languages.{seen}
+use Rattle.sheet.specs.declared.held.Held.{Held}
+use Rattle.sheet.specs.Questions.{Governed, name_met}
+use Rattle.sheet.specs.Sheets.{held_rows, locked}
+use Rattle.sheet.proofs.Governing.{Reads, Unread, governed}
+use Rattle.sheet.proofs.QuestionFacts.{passed, govern_by}
 use Rattle.sheet.proofs.sheet.LockedSheet.lowest.Goals as goal
-
-pub returns-in_err-check_name : goal.returns-in_err-check_name
-returns-in_err-check_name g c =
-    let p = err_from_is_err_and c.from_residual.result c.from_residual.ensures.1 in
-    rw (p.1, p.2) (govern_by (g.A.Alphabet.held c.args.self.now.alphabet) c.args.name.now (locked c.args.self.now) _ _ (denied_by (name_met (length c.args.name.now)) _ c.in_err-check_name.ensures) refl)
-
-pub returns-then-reads_at : goal.returns-then-reads_at
-returns-then-reads_at g c =
-    let many : length (locked c.args.self.now) ≡ c.len-place-end.result = many_held (vec_items c.args.self.now.rules) c.len-place-end.result (c.len-place-end.ensures ∙ c.args.self.now.rules.ok.0) in
-    govern_by (g.A.Alphabet.held c.args.self.now.alphabet) c.args.name.now (locked c.args.self.now) _ _ (passed (name_met (length c.args.name.now)) c.in_ok-check_name.ensures) (record {
-      held = omega arith;
-      reads = c.reads_at.ensures.yes c.if-reads_at.true;
-      none_before = c.loop-place.invariant;
-    })
-
-pub loop-place-preserved : goal.loop-place-preserved
-loop-place-preserved g c = below_more _ _ c.loop-place.invariant (c.reads_at.ensures.no c.if-reads_at.false)
 
 pub returns : goal.returns
 returns g c =
-    let many : length (locked c.args.self.now) ≡ c.len-place-end.result = many_held (vec_items c.args.self.now.rules) c.len-place-end.result (c.len-place-end.ensures ∙ c.args.self.now.rules.ok.0) in
-    govern_by (g.A.Alphabet.held c.args.self.now.alphabet) c.args.name.now (locked c.args.self.now) _ _ (passed (name_met (length c.args.name.now)) c.in_ok-check_name.ensures) (refl, λ k h. c.loop-place.invariant k (omega arith))
+    let w = seen (g.A.Alphabet.held c.args.self.now.kept.alphabet) c.args.name.now in
+    let first = IsFirst-from_position _ _ c.position.result (Reads w) (Unread w) c.position.ensures.ran (YieldsList-from_slice _ c.iter.ensures.rest) (λ x q k. search (rules, tests)) (λ x q k. search (rules, tests)) in
+    let P : List Held → Type 0 = λ hs. Governed None (map held_rows hs) w c.ok_or.result in
+    let Q : Result ℕ Denial → Type 0 = λ r. Governed None (map held_rows c.deref.result.now) w r in
+    govern_by (g.A.Alphabet.held c.args.self.now.kept.alphabet) c.args.name.now (locked c.args.self.now) _ None (passed (name_met (length c.args.name.now)) c.in_ok-check_name.ensures)
+    (subst P c.deref.ensures.value (subst Q (sym c.ok_or.ensures.value) (governed w c.deref.result.now c.position.result first)))
