@@ -1,5 +1,5 @@
 -- What the calls, the sheet and the answer of a replay stand for. Assumes nothing.
-use Rattle.std.specs.Prelude.{◌≡◌, ℕ, Bool, true, false, List, [], map, length, vec_items}
+use Rattle.std.specs.Prelude.{◌≡◌, ℕ, Bool, true, false, List, [], map, length, vec_items, Result, Ok, Err}
 use Rattle.policies.specs.Orders.{Order}
 use Rattle.sheet.specs.declared.history.Call.{Call as Made}
 use Rattle.sheet.specs.declared.history.Call.TheVariants.{Add, Drop, Lock, Unlock, Ask}
@@ -10,7 +10,7 @@ use Rattle.sheet.specs.declared.history.Answer.TheVariants.{Spans as SpansAnswer
 use Rattle.sheet.specs.declared.history.Sheet.{Sheet}
 use Rattle.sheet.specs.declared.history.Sheet.TheVariants.{Open, Locked}
 use Rattle.sheet.specs.declared.history.Replayed.{Replayed}
-use Rattle.sheet.specs.declared.history.Replayed.TheVariants.{NotAllowed, Answered as AnsweredBy}
+use Rattle.sheet.specs.declared.history.NotAllowed.{NotAllowed}
 use Rattle.sheet.specs.Changes.{Rules}
 use Rattle.sheet.specs.Histories.{Question, spans, govern, sets, Call, add, drop, lock, unlock, ask, leads_locked, held_from}
 use Rattle.sheet.specs.Law.{Told, spans_result, govern_result, sets_result, Law}
@@ -62,10 +62,10 @@ module _ {A P : Type 0} where
   policy_in (Locked s) = s.kept.policy
 
 -- what a replay of calls, and then a question, gives back: not allowed exactly where the calls are not, or lead to an open sheet; else, for a sheet that held nothing, the law of its answer
-abbrev pub Replay : {A P S : Type 0} → (A → ℕ → ℕ → Bool) → (A → ℕ → ℕ → S → Bool) → (P → Order) → A → P → Rules → List (Made S) → Asked S → Asked S → Replayed A P → Type 0
-Replay admitted holds above alphabet policy rules calls q q' (NotAllowed s) = leads_locked true (map meant calls) ≡ false
-Replay admitted holds above alphabet policy rules calls q q' (AnsweredBy s a) =
+abbrev pub Replay : {A P S : Type 0} → (A → ℕ → ℕ → Bool) → (A → ℕ → ℕ → S → Bool) → (P → Order) → A → P → Rules → List (Made S) → Asked S → Asked S → Result (Replayed A P) (NotAllowed A P) → Type 0
+Replay admitted holds above alphabet policy rules calls q q' (Err not) = leads_locked true (map meant calls) ≡ false
+Replay admitted holds above alphabet policy rules calls q q' (Ok r) =
     (leads_locked true (map meant calls) ≡ true)
-    × (s.kept.alphabet ≡ alphabet) × (s.kept.policy ≡ policy)
-    × (locked s ≡ held_from (admitted alphabet) rules (map meant calls))
-    × (rules ≡ [] → Law (admitted alphabet) (holds alphabet) (above policy) (map meant calls) (asked q) (told (locked s) q' a))
+    × (r.sheet.kept.alphabet ≡ alphabet) × (r.sheet.kept.policy ≡ policy)
+    × (locked r.sheet ≡ held_from (admitted alphabet) rules (map meant calls))
+    × (rules ≡ [] → Law (admitted alphabet) (holds alphabet) (above policy) (map meant calls) (asked q) (told (locked r.sheet) q' r.answer))

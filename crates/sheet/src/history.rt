@@ -37,9 +37,15 @@ pub enum Sheet<A, P> {
     Locked(LockedSheet<A, P>),
 }
 
-// What a replay gives back: the sheet as it was, where the calls are not allowed, or the locked sheet and the answer.
+// What a replay gives back: the locked sheet, and its answer to the question.
 #[derive(Drop)]
-pub enum Replayed<A, P> {
-    NotAllowed(OpenSheet<A, P>),
-    Answered(LockedSheet<A, P>, Answer),
+pub struct Replayed<A, P> {
+    pub sheet: LockedSheet<A, P>,
+    pub answer: Answer,
+}
+
+// The calls of a replay are not allowed, or leave the sheet open. The sheet is as it was.
+#[derive(Drop)]
+pub struct NotAllowed<A, P> {
+    pub sheet: OpenSheet<A, P>,
 }

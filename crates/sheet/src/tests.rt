@@ -21,17 +21,15 @@ fn two_choices() -> [Row; 9] {
     ]
 }
 
-// Where the first choice of the rule at a place ends on `ab`, or the number of the denial and a hundred.
-fn first_end<P: Policy>(sheet: &LockedSheet<Bytes, P>, place: usize) -> usize {
+// Where the first choice of the rule at a place ends on `ab`, if it has a stretch.
+fn first_end<P: Policy>(
+    sheet: &LockedSheet<Bytes, P>,
+    place: usize,
+) -> Result<Option<usize>, Denial> {
     let mut bench = [0; 81];
     let mut report = [None; 9];
-    match sheet.spans(place, b"ab", &mut bench, &mut report) {
-        Ok(()) => match report[1] {
-            Some((_, end)) => end,
-            None => 99,
-        },
-        Err(denial) => 100 + denial.number() as usize,
-    }
+    sheet.spans(place, b"ab", &mut bench, &mut report)?;
+    Ok(report[1].map(|stretch| stretch.1))
 }
 
 // A sheet that has been locked, unlocked and changed answers as a fresh one with the same rules.
@@ -48,8 +46,8 @@ fn history_leaves_no_trace<P: Policy + Copy>(
     let mut sheet = OpenSheet::open(rt.alloc(), Bytes, policy)?;
     assert_eq!(rt; sheet.add(&two_choices())?, 0);
     let fresh = sheet.lock();
-    assert_eq!(rt; first_end(&used, 0), first_end(&fresh, 0));
-    assert_eq!(rt; first_end(&used, 1), 107);
+    assert!(rt; first_end(&used, 0) == first_end(&fresh, 0));
+    assert!(rt; first_end(&used, 1) == Err(Denial::NoSuchPlace));
     assert!(rt; used.govern(b"ab") == Ok(0));
     assert!(rt; used.govern(b"ba") == Err(Denial::NotRead));
     Ok(())
@@ -65,9 +63,9 @@ fn histories(rt: HostRuntime) -> Result<(), Fail> {
 fn policies_differ(rt: HostRuntime) -> Result<(), Fail> {
     let mut sheet = OpenSheet::open(rt.alloc(), Bytes, Posix)?;
     sheet.add(&two_choices())?;
-    assert_eq!(rt; first_end(&sheet.lock(), 0), 2);
+    assert!(rt; first_end(&sheet.lock(), 0) == Ok(Some(2)));
     let mut sheet = OpenSheet::open(rt.alloc(), Bytes, FirstLongest)?;
     sheet.add(&two_choices())?;
-    assert_eq!(rt; first_end(&sheet.lock(), 0), 1);
+    assert!(rt; first_end(&sheet.lock(), 0) == Ok(Some(1)));
     Ok(())
 }

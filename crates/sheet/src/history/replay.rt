@@ -4,7 +4,7 @@ ghost use Rattle.sheet.specs.Law.{Answered};
 ghost use Rattle.sheet.specs.Replays.{Replay, alphabet_in, asked, is_open, meant, policy_in, rules_in, told};
 ghost use Rattle.sheet.specs.Sheets.{holding, locked};
 
-use super::{Answer, Call, Question, Replayed, Sheet};
+use super::{Answer, Call, NotAllowed, Question, Replayed, Sheet};
 use crate::sheet::{LockedSheet, OpenSheet};
 use policies::Policy;
 use rules::Alphabet;
@@ -33,30 +33,22 @@ impl<A: Alphabet, P: Policy> Sheet<A, P> {
         ensures alphabet { alphabet_in result ≡ alphabet_in self }
         ensures policy { policy_in result ≡ policy_in self }
     {
-        match self {
-            Sheet::Open(mut sheet) => match call {
-                Call::Add(rows) => {
-                    let _ = sheet.add(rows);
-                    Sheet::Open(sheet)
-                }
-                Call::Drop(place) => {
-                    let _ = sheet.drop(*place);
-                    Sheet::Open(sheet)
-                }
-                Call::Lock => Sheet::Locked(sheet.lock()),
-                Call::Unlock => unreachable(),
-                Call::Ask(_) => unreachable(),
-            },
-            Sheet::Locked(sheet) => match call {
-                Call::Add(_) => unreachable(),
-                Call::Drop(_) => unreachable(),
-                Call::Lock => unreachable(),
-                Call::Unlock => Sheet::Open(sheet.unlock()),
-                Call::Ask(question) => {
-                    let _ = sheet.ask(question);
-                    Sheet::Locked(sheet)
-                }
-            },
+        match (self, call) {
+            (Sheet::Open(mut sheet), Call::Add(rows)) => {
+                let _ = sheet.add(rows);
+                Sheet::Open(sheet)
+            }
+            (Sheet::Open(mut sheet), Call::Drop(place)) => {
+                let _ = sheet.drop(*place);
+                Sheet::Open(sheet)
+            }
+            (Sheet::Open(sheet), Call::Lock) => Sheet::Locked(sheet.lock()),
+            (Sheet::Locked(sheet), Call::Unlock) => Sheet::Open(sheet.unlock()),
+            (Sheet::Locked(sheet), Call::Ask(question)) => {
+                let _ = sheet.ask(question);
+                Sheet::Locked(sheet)
+            }
+            _ => unreachable(),
         }
     }
 }
@@ -114,13 +106,13 @@ pub fn replay<A: Alphabet, P: Policy>(
     sheet: OpenSheet<A, P>,
     calls: &mut [Call<A::Symbol>],
     question: &mut Question<A::Symbol>,
-) -> Replayed<A, P>
+) -> Result<Replayed<A, P>, NotAllowed<A, P>>
     ensures { Replay A.Alphabet.admitted A.Alphabet.held P.Policy.above sheet.kept.alphabet sheet.kept.policy (holding sheet) calls.old question.old question.new result }
 {
     if !lead_locked(calls) {
-        return Replayed::NotAllowed(sheet);
+        return Err(NotAllowed { sheet });
     }
     let sheet = run(sheet, calls);
     let answer = sheet.ask(question);
-    Replayed::Answered(sheet, answer)
+    Ok(Replayed { sheet, answer })
 }
