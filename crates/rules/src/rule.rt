@@ -5,7 +5,7 @@ use crate::row::Row;
 
 pub mod checked;
 
-// A rule: at most 64 rows, which are those of a tree.
+// A rule: at most 64 rows, which are those of a tree. An array and a length, so that a rule is `Copy` and takes no memory of its own.
 #[derive(Clone, Copy)]
 pub struct Rule {
     rows: [Row; 64],

@@ -53,6 +53,7 @@ fn alphabets(rt: HostRuntime) {
 
 #[test]
 fn kinds(rt: HostRuntime) {
+    assert!(rt; Row::from(Kind::Star) == Row::new(4, 0, 0) && Row::leaf(1, 2) == Row::new(1, 1, 2));
     assert_eq!(rt; Kind::try_from(0).ok(), Some(Kind::Empty));
     assert_eq!(rt; Kind::try_from(4).ok(), Some(Kind::Star));
     assert_eq!(rt; Kind::try_from(5).err(), Some(Denial::UnknownKind));

@@ -8,7 +8,7 @@ use super::Rule;
 use crate::alphabet::Alphabet;
 use crate::denial::Denial;
 use crate::kind::Kind;
-use crate::row::{EMPTY, Row};
+use crate::row::Row;
 
 impl Kind {
     // How many parts a node of the kind has.
@@ -76,7 +76,7 @@ impl Rule {
             return Err(Denial::RowCount);
         }
         check_rows(alphabet, rows)?;
-        let mut all = [Row::inner(EMPTY); 64];
+        let mut all = [Row::from(Kind::Empty); 64];
         all[..len].copy_from_slice(rows);
         Ok(Rule { rows: all, len })
     }
