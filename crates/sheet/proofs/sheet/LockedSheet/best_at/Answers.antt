@@ -1,30 +1,12 @@
-use Rattle.std.proofs.Common.{List, Result, Err, sym, refl, ap, ◌∙◌, subst}
-use Rattle.std.proofs.lemmas.Result.{err_from_is_err_and}
-use Rattle.rules.specs.declared.row.Row.{Row}
+use Rattle.std.proofs.Common.{Result, Err, sym, refl, ap, ◌∙◌, subst}
 use Rattle.rules.specs.Languages.{seen}
 use Rattle.matcher.specs.declared.matching.Unmatched.{Unmatched}
 use Rattle.matcher.specs.Matching.{Outcome}
-use Rattle.sheet.specs.Questions.{at, Read}
+use Rattle.sheet.specs.Questions.{at}
 use Rattle.sheet.specs.Sheets.{locked}
 use Rattle.sheet.proofs.QuestionFacts.{held_ruled}
-use Rattle.sheet.proofs.SpansFacts.{seen_met, all_fit, denied, not_read, found, outside}
+use Rattle.sheet.proofs.SpansFacts.{seen_met, all_fit, not_read, found, outside}
 use Rattle.sheet.proofs.sheet.LockedSheet.best_at.Goals as goal
-
-pub returns-in_err-held : goal.returns-in_err-held
-returns-in_err-held g c =
-    let p = err_from_is_err_and c.from_residual.result c.from_residual.ensures.1 in
-    let holds = g.A.Alphabet.held c.args.self.now.kept.alphabet in
-    rw (p.1, p.2) (denied (g.P.Policy.above c.args.self.now.kept.policy) (seen holds c.args.name.now) (locked c.args.self.now) c.args.place c.args.bench.now c.args.report.now _
-    (seen_met holds c.args.name.now (locked c.args.self.now) c.args.place _ _ _ c.in_err-held.ensures))
-
-pub returns-then-not-reads : goal.returns-then-not-reads
-returns-then-not-reads g c =
-    let k = c.in_ok-held.ensures in
-    let rules = locked c.args.self.now in
-    let holds = g.A.Alphabet.held c.args.self.now.kept.alphabet in
-    let w = seen holds c.args.name.now in
-    not_read (g.P.Policy.above c.args.self.now.kept.policy) w rules c.args.place c.args.bench.now c.args.report.now c.args.bench.now _ (seen_met holds c.args.name.now rules c.args.place _ _ _ k.0) refl
-    (λ r. c.reads.ensures.no c.if-not-reads.true (subst (λ (rs : List Row). Read rs w) (sym k.1) r))
 
 pub unreachable-requires : goal.unreachable-requires
 unreachable-requires g c =
