@@ -20,9 +20,9 @@ pub(crate) struct Part {
 fn link(follow: &mut [u32], set: u32, more: u32)
     ensures { follow.new ≡ followed set more 0 follow.old }
 {
-    for p in 0..follow.len() {
+    for (p, next) in follow.iter_mut().enumerate() {
         if member(set, p) {
-            follow[p] |= more;
+            *next |= more;
         }
     }
 }
