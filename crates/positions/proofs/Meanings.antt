@@ -288,7 +288,7 @@ follow_means t n k y = (
 )
 
 -- no set member a bit past the tree's leaves
-cond_below : (b : Bool) (a m : ℕ) → a < 2 ^ m → cond b a 0 < 2 ^ m
+pub cond_below : (b : Bool) (a m : ℕ) → a < 2 ^ m → cond b a 0 < 2 ^ m
 cond_below true a m h = h
 cond_below false a m h = pow_pos m
 
