@@ -1,16 +1,15 @@
 -- Going through the leaves of a set: what is found, and what is found at the leaves that are left.
-use Rattle.std.proofs.Common.{◌≡◌, ℕ, suc, ◌+◌, ◌-◌, ◌^◌, ◌<◌, ◌≤◌, Bool, true, cond, ◌&&◌, not, List, [], ◌∷◌, length, get_or, take, drop, replicate, sym, refl, ap, ◌∙◌, subst, ⊎_elim, arith, length-take}
+use Rattle.std.proofs.Common.{◌≡◌, ℕ, ◌+◌, ◌-◌, ◌^◌, ◌<◌, ◌≤◌, Bool, true, cond, ◌&&◌, not, List, length, get_or, take, drop, replicate, sym, refl, ap, ◌∙◌, subst, ⊎_elim, arith, length-take}
 use native.Mathlib.Decide.{dec_lt, ℕ_discrete}
 use lib.Bits.{bit_and, bit_or, and_zero_l, or_zero_r}
 use Rattle.std.proofs.lemmas.List.{get_or-take, get_or-drop, get_or_past, get_or-replicate, length-take-le, length-replicate}
-use Rattle.std.proofs.lemmas.Nat.{or_lt, pow_pos}
 use Rattle.std.proofs.lemmas.Bool.{and_parts, and_from, ne_eqb}
 use Rattle.rules.specs.Languages.{Sight}
 use Rattle.positions.specs.Positions.{member}
 use Rattle.positions.specs.LeafSets.{Lowest}
 use Rattle.positions.specs.Steps.{holders, followers}
 use Rattle.positions.proofs.Masks.{member_and, member_above, same_leaves, same_test, or_join, or_and, one_and, lowest_or}
-use Rattle.positions.proofs.Meanings.{never, or_either, in_left, in_right, cond_below, AllBelow}
+use Rattle.positions.proofs.Meanings.{never, or_either, in_left, in_right}
 use Rattle.positions.proofs.Steps.{Holds, holders_sound, holders_full, followers_sound, followers_full}
 
 -- whether leaf p is among those that hold
@@ -93,8 +92,3 @@ followers_front fs n m set z = same_leaves _ _ (λ y. same_test _ _ (moved fs (t
     at k (no ge) =
         let e : n + (k - n) ≡ k = omega arith in
         get_or_past (take n fs) k 0 (omega (arith, length-take n fs)) ∙ sym (zero_at (k - n) (dec_lt (k - n) m)) ∙ ap (λ l. get_or l (k - n) 0) (sym z) ∙ get_or-drop n fs (k - n) 0 ∙ ap (λ j. get_or fs j 0) e
-
--- what follows is below a bound of the follow sets
-pub followers_below : (fs : List ℕ) (n m set : ℕ) → AllBelow (2 ^ m) fs → followers fs n set < 2 ^ m
-followers_below [] n m set h = pow_pos m
-followers_below (f ∷ fs) n m set h = or_lt m (cond (member set n) f 0) (followers fs (suc n) set) (cond_below (member set n) f m h.0) (followers_below fs (suc n) m set h.1)

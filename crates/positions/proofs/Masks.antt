@@ -1,11 +1,12 @@
 -- Leaves of unions, of common parts and of single leaves, by the bits of masks.
-use Rattle.std.proofs.Common.{◌≡◌, ℕ, zero, suc, ◌-◌, ◌*◌, ◌/◌, ◌%◌, ◌^◌, ◌<◌, ◌≤◌, min, max, Bool, true, false, cond, ◌&&◌, ◌||◌, not, eqb, sym, refl, ap, ◌∙◌, subst, ap₂, ⊎_elim, arith}
+use Rattle.std.proofs.Common.{◌≡◌, ℕ, zero, suc, ◌-◌, ◌*◌, ◌/◌, ◌+◌, ◌%◌, ◌^◌, ◌<◌, ◌≤◌, min, max, Bool, true, false, cond, ◌&&◌, ◌||◌, not, eqb, sym, refl, ap, ◌∙◌, subst, ap₂, ⊎_elim, arith}
 use lib.Bits.{bit_and, bit_or}
 use native.Mathlib.Decide.{dec_lt, ℕ_discrete}
-use Rattle.std.proofs.lemmas.Nat.{and_comm, and_le_l, or_disjoint, pow_pos}
-use Rattle.std.proofs.lemmas.Nat.Bits.{bit_at-lt, bit_at-zero, bit_at-suc, bit_at_lowest, bit_at_and, bit_at_or, bit_at-pow_same, bit_at-pow_other, bit_at_above, bit_at-trailing_zeros, bit_at_clear_same, bit_at_clear_other, and_pow, shr_and_one, same_from_bits}
+use Rattle.std.proofs.lemmas.Nat.{and_comm, and_le_l, or_disjoint, pow_pos, shr-shr}
+use Rattle.std.proofs.lemmas.Nat.Bits.{bit_at-lt, bit_at-zero, bit_at-suc, bit_at_lowest, bit_at_and, bit_at_or, bit_at-pow_same, bit_at-pow_other, bit_at_above, bit_at-trailing_zeros, bit_at_clear_same, bit_at_clear_other, and_pow, same_from_bits}
 use Rattle.std.specs.Int.{bit_at, trailing_zeros, w32}
 use Rattle.std.proofs.lemmas.Bool.{true≢false, eqb-false, eq-eqb, ne_eqb, cases_Bool}
+use Rattle.std.proofs.Math.Nat.{mod-eq-sub-div-mul, mod-lt}
 use Rattle.std.proofs.Math.Bool.{and-true, and-false, or_assoc, and-or_distrib_right}
 use Rattle.positions.specs.Positions.{member}
 use Rattle.positions.specs.LeafSets.{Lowest}
@@ -62,13 +63,12 @@ member_one n p = elim (ℕ_discrete p n) [
   | no ne ↦ is_one (2 ^ n) p 0 (bit_at-pow_other n p ne) ∙ sym (ne_eqb p n ne)
 ]
 
--- asking a word of 32 bits for a leaf
-pub asked : (set p : ℕ) → eqb (bit_and (set / 2 ^ p) 1) 1 ≡ member set p
-asked set p = ap (λ z. eqb z 1) (shr_and_one set p)
-
 -- a set below 2 ^ n has no leaf from n on
 pub member_above : (set n p : ℕ) → set < 2 ^ n → n ≤ p → member set p ≡ false
 member_above set n p h le = is_one set p 0 (bit_at_above set n p h le)
+
+pub member_below : (set n p : ℕ) → set < 2 ^ n → member set p ≡ true → p < n
+member_below set n p h e = elim (dec_lt p n) [ yes lt ↦ lt | no ge ↦ absurd (true≢false (sym e ∙ member_above set n p h (omega arith))) ]
 
 -- a set that is not empty has a leaf
 some_bit : (n a : ℕ) → a ≤ n → (a ≡ 0 → ⊥) → (p : ℕ) × (member a p ≡ true)
@@ -90,6 +90,18 @@ pub same_test : (x y : Bool) → (x ≡ true → y ≡ true) → (y ≡ true →
 same_test true y f g = sym (f refl)
 same_test false true f g = g refl
 same_test false false f g = refl
+
+no_high : (set n : ℕ) → set / 2 ^ n ≡ 0 → set < 2 ^ n
+no_high set n e =
+    let low : set % 2 ^ n ≡ set = mod-eq-sub-div-mul set (2 ^ n) ∙ ap (λ k. set - k * 2 ^ n) e ∙ (omega arith) in
+    subst (λ k. k < 2 ^ n) low (mod-lt set (pow_pos n))
+
+-- a set is below 2 ^ n where its leaves are below n
+pub below_members : (set n : ℕ) → ((p : ℕ) → member set p ≡ true → p < n) → set < 2 ^ n
+below_members set n f = elim (dec_lt set (2 ^ n)) [
+  | yes lt ↦ lt
+  | no ge ↦ let high = member_some (set / 2 ^ n) (λ e. ge (no_high set n e)) in absurd (omega (arith, f (n + high.0) (ap (λ z. eqb (z % 2) 1) (sym (shr-shr set n high.0)) ∙ high.1)))
+]
 
 -- sets with the same leaves are the same
 pub same_leaves : (a b : ℕ) → ((p : ℕ) → member a p ≡ member b p) → a ≡ b

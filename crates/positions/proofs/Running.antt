@@ -8,10 +8,11 @@ use Rattle.positions.specs.declared.sets.Positions.{Positions}
 use Rattle.positions.specs.Positions.{first_set, follow_sets, leaf_of}
 use Rattle.positions.specs.SetsOf.{SetsOf}
 use Rattle.positions.specs.Steps.{holders, followers, step, reach, accepts}
-use Rattle.positions.proofs.Meanings.{first_below, follow_below}
+use Rattle.positions.proofs.Masks.{below_members, member_below}
+use Rattle.positions.proofs.Meanings.{sets_mean}
 use Rattle.positions.proofs.Runs.{length_leaf_of}
-use Rattle.positions.proofs.Loops.{none_follow, holders_front, followers_front, followers_below}
-use Rattle.positions.proofs.Steps.{accepts_exactly}
+use Rattle.positions.proofs.Loops.{none_follow, holders_front, followers_front}
+use Rattle.positions.proofs.Steps.{accepts_exactly, followers_sound}
 
 -- a test that gives what the steps give is the language's
 exactly : (t : Tree) (w : List Sight) (b : Bool) → b ≡ accepts t w → (b ≡ true) ↔ In t w
@@ -40,11 +41,14 @@ module _ {S : Type 0} (held : ℕ → ℕ → S → Bool) where
         holders_front p.leaves (sight x) p.count a (omega (arith, h.count_is, long, length-take p.count p.leaves)) (subst (λ n. a < 2 ^ n) (sym h.count_is) lt)
         ∙ ap (λ z. bit_and a (holders z 0 (sight x))) h.leaves_are
 
+    followed_below : (set : ℕ) → followers (follow_sets t 0) 0 set < 2 ^ leaves t
+    followed_below set = below_members _ _ (λ y h. let c = followers_sound (follow_sets t 0) 0 set y h in member_below (get_or (follow_sets t 0) c.0 0) (leaves t) y ((sets_mean t).follow_fits c.0) c.2)
+
     pub run_step : (set a r : ℕ) (x : S) → a ≡ followers p.follow 0 set → r ≡ bit_and a (holders p.leaves 0 (λ lo hi. held lo hi x)) → r ≡ step t set (λ lo hi. held lo hi x)
     run_step set a r x e f =
         let next = followers (follow_sets t 0) 0 set in
         let same : a ≡ next = e ∙ followers_front p.follow p.count (32 - p.count) set h.no_more_follow ∙ ap (λ z. followers z 0 set) h.follow_is in
-        f ∙ ap (λ z. bit_and z (holders p.leaves 0 (sight x))) same ∙ held_by next x (followers_below (follow_sets t 0) 0 (leaves t) set (follow_below t 0 (leaves t) (omega arith)))
+        f ∙ ap (λ z. bit_and z (holders p.leaves 0 (sight x))) same ∙ held_by next x (followed_below set)
 
     pub run_turn : (rest : List S) (i set r start : ℕ) (x : S) → i < length rest → x ≡ get_or rest i x → r ≡ step t set (λ lo hi. held lo hi x)
         → reach t set (drop i (seen held rest)) ≡ reach t start (seen held rest) → reach t r (drop (i + 1) (seen held rest)) ≡ reach t start (seen held rest)
@@ -54,7 +58,7 @@ module _ {S : Type 0} (held : ℕ → ℕ → S → Bool) where
     run_none name e = exactly t (seen held name) p.nullable (h.nullable_is ∙ ap (λ z. accepts t (seen held z)) (sym (nil_from_length name e)))
 
     begun : (a : ℕ) (x : S) → a ≡ bit_and p.first (holders p.leaves 0 (λ lo hi. held lo hi x)) → a ≡ bit_and (first_set t 0) (holders (leaf_of t) 0 (sight x))
-    begun a x f = f ∙ ap (λ z. bit_and z (holders p.leaves 0 (sight x))) h.first_is ∙ held_by (first_set t 0) x (first_below t 0 (leaves t) (omega arith))
+    begun a x f = f ∙ ap (λ z. bit_and z (holders p.leaves 0 (sight x))) h.first_is ∙ held_by (first_set t 0) x (sets_mean t).first_fits
 
     -- the name is taken apart, and set is what its symbols reach
     answered : (name rest : List S) (set a : ℕ) (x : S) → 0 < length name → x ≡ get_or name 0 x → rest ≡ drop 1 name
