@@ -11,38 +11,29 @@ use Rattle.std.proofs.Math.Bool.{and-true, and-false, or_assoc, and-or_distrib_r
 use Rattle.positions.specs.Positions.{member}
 use Rattle.positions.specs.LeafSets.{Lowest}
 
--- two bits, united, in common, and as a factor
+-- what holds of all pairs of bits
+two_bits : (P : ℕ → ℕ → Type 0) → P 0 0 → P 0 1 → P 1 0 → P 1 1 → (a b : ℕ) → a < 2 → b < 2 → P a b
+two_bits P c d e f zero zero h k = c
+two_bits P c d e f zero (suc zero) h k = d
+two_bits P c d e f zero (suc (suc b)) h k = absurd (omega arith)
+two_bits P c d e f (suc zero) zero h k = e
+two_bits P c d e f (suc zero) (suc zero) h k = f
+two_bits P c d e f (suc zero) (suc (suc b)) h k = absurd (omega arith)
+two_bits P c d e f (suc (suc a)) b h k = absurd (omega arith)
+
 or_of_bits : (a b : ℕ) → a < 2 → b < 2 → eqb (max a b) 1 ≡ (eqb a 1 || eqb b 1)
-or_of_bits zero zero h k = refl
-or_of_bits zero (suc zero) h k = refl
-or_of_bits zero (suc (suc b)) h k = absurd (omega arith)
-or_of_bits (suc zero) zero h k = refl
-or_of_bits (suc zero) (suc zero) h k = refl
-or_of_bits (suc zero) (suc (suc b)) h k = absurd (omega arith)
-or_of_bits (suc (suc a)) b h k = absurd (omega arith)
+or_of_bits = two_bits (λ a b. eqb (max a b) 1 ≡ (eqb a 1 || eqb b 1)) refl refl refl refl
 
 and_of_bits : (a b : ℕ) → a < 2 → b < 2 → eqb (min a b) 1 ≡ (eqb a 1 && eqb b 1)
-and_of_bits zero zero h k = refl
-and_of_bits zero (suc zero) h k = refl
-and_of_bits zero (suc (suc b)) h k = absurd (omega arith)
-and_of_bits (suc zero) zero h k = refl
-and_of_bits (suc zero) (suc zero) h k = refl
-and_of_bits (suc zero) (suc (suc b)) h k = absurd (omega arith)
-and_of_bits (suc (suc a)) b h k = absurd (omega arith)
+and_of_bits = two_bits (λ a b. eqb (min a b) 1 ≡ (eqb a 1 && eqb b 1)) refl refl refl refl
+
+same_bit : (a b : ℕ) → a < 2 → b < 2 → eqb a 1 ≡ eqb b 1 → a ≡ b
+same_bit = two_bits (λ a b. eqb a 1 ≡ eqb b 1 → a ≡ b) (λ e. refl) (λ e. absurd (true≢false (sym e))) (λ e. absurd (true≢false e)) (λ e. refl)
 
 times_bit : (b m : ℕ) → b < 2 → b * m ≡ cond (eqb b 1) m 0
 times_bit zero m h = omega arith
 times_bit (suc zero) m h = omega arith
 times_bit (suc (suc b)) m h = absurd (omega arith)
-
-same_bit : (a b : ℕ) → a < 2 → b < 2 → eqb a 1 ≡ eqb b 1 → a ≡ b
-same_bit zero zero h k e = refl
-same_bit zero (suc zero) h k e = absurd (true≢false (sym e))
-same_bit zero (suc (suc b)) h k e = absurd (omega arith)
-same_bit (suc zero) zero h k e = absurd (true≢false e)
-same_bit (suc zero) (suc zero) h k e = refl
-same_bit (suc zero) (suc (suc b)) h k e = absurd (omega arith)
-same_bit (suc (suc a)) b h k e = absurd (omega arith)
 
 -- whether the leaf is there, from its bit
 is_one : (a p b : ℕ) → bit_at a p ≡ b → member a p ≡ eqb b 1

@@ -5,7 +5,7 @@ use rules::row::{CHOICE, EMPTY, LEAF, SEQUENCE, STAR};
 use rules::{Row, Rule};
 use std::test::Fail;
 
-// (a|ab)(b|)
+// (a|ab)(b|). Tests of other crates write it too, since the test items of one crate are not seen from another.
 fn two_choices() -> [Row; 9] {
     [
         Row::inner(SEQUENCE),

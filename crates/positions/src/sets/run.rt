@@ -1,7 +1,7 @@
 ghost use Rattle.std.specs.Prelude.{◌≡◌, true, ◌↔◌, bit_and};
 ghost use Rattle.rules.specs.Languages.{In, seen};
 ghost use Rattle.rules.specs.Trees.{Tree};
-ghost use Rattle.positions.specs.SetsOf.{SetsOf, kept_follow, kept_leaves};
+ghost use Rattle.positions.specs.SetsOf.{SetsOf};
 ghost use Rattle.positions.specs.Steps.{followers, holders, step};
 
 use super::Positions;
@@ -34,7 +34,7 @@ impl Positions {
         next
     }
 
-    // The leaves reached from those of the set by the symbol.
+    // The leaves reached from those of the set by the symbol. It takes what holders takes, being a holders of what follows.
     fn step<A: Alphabet>(&self, alphabet: &A, set: u32, symbol: &A::Symbol) -> u32
         ensures { (t : Tree) → SetsOf t self.now → result ≡ step t set (λ lo hi. A.Alphabet.held alphabet.now lo hi symbol.now) }
     {
