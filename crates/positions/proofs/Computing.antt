@@ -5,13 +5,13 @@ use Rattle.rules.specs.declared.row.Row.{Row}
 use Rattle.rules.specs.RuleRows.{Ruled}
 use Rattle.rules.specs.Trees.{Tree, leaves, Of}
 use Rattle.rules.proofs.RowFacts.{few_leaves}
+use Rattle.rules.proofs.Nodes.{stands_whole}
 use Rattle.positions.specs.declared.sets.Positions.{Positions}
 use Rattle.positions.specs.declared.sets.visit.Part.{Part}
 use Rattle.positions.specs.Positions.{follow_sets, leaf_of}
 use Rattle.positions.specs.SetsOf.{SetsOf}
 use Rattle.positions.specs.Visits.{Placed, Visited}
 use Rattle.positions.proofs.Meanings.{length_follow_sets}
-use Rattle.positions.proofs.Nodes.{stands_whole}
 use Rattle.positions.proofs.Runs.{length_leaf_of}
 
 pub placed_whole : (rs : List Row) → Ruled rs → Placed rs 0 0

@@ -6,7 +6,6 @@ pub mod Steps
 pub mod Loops
 pub mod Running
 pub mod Linking
-pub mod Nodes
 pub mod Visiting
 pub mod Gathering
 pub mod Computing

@@ -1,7 +1,7 @@
 -- Uniting a set into the follow sets of the leaves of a group.
 use Rattle.std.proofs.Common.{◌≡◌, ℕ, suc, ◌+◌, ◌<◌, ◌≤◌, Bool, true, false, cond, List, [], ◌∷◌, ◌++◌, length, get_or, take, drop, set, sym, refl, ap, ◌∙◌, ap₂, ⊎_elim, append_assoc, append-nil, arith}
 use lib.Bits.{bit_or, or_zero_r}
-use Rattle.std.proofs.lemmas.List.{length-take-le, take_more, take_all, drop_more, drop_all, get_or_at, set_at, set-get_or}
+use Rattle.std.proofs.lemmas.List.{length-take-le, take_more, take_all, drop_more, drop_all, get_or_at, set_at}
 use Rattle.std.proofs.lemmas.Bool.{cases_Bool}
 use Rattle.positions.specs.Positions.{member, followed}
 use Rattle.positions.proofs.Meanings.{length_followed}
@@ -34,10 +34,6 @@ link_turn old new r group more p b lt e f h =
     let more_is : followed group more 0 (take (p + 1) old) ≡ a ++ v ∷ [] =
     ap (followed group more 0) (take_more old p 0 lt) ∙ followed_append group more 0 (take p old) (y ∷ []) ∙ ap (λ k. a ++ bit_or y (cond (member group k) more 0) ∷ []) p_is in
     wrote ∙ sym (append_assoc a (v ∷ []) ys) ∙ ap (λ z. z ++ ys) (sym more_is)
-
-pub link_kept : (old new : List ℕ) (group more p : ℕ) → p < length old → false ≡ member group p → Linked old group more p new → Linked old group more (p + 1) new
-link_kept old new group more p lt e h =
-    link_turn old new new group more p false lt e (sym (ap (set new p) (or_zero_r (get_or new p 0)) ∙ set-get_or new p 0)) h
 
 pub link_end : (old new : List ℕ) (group more p : ℕ) → length old ≤ p → Linked old group more p new → new ≡ followed group more 0 old
 link_end old new group more p le h =

@@ -1,14 +1,13 @@
 -- What the position sets hold, by the words that are spelled.
-use Rattle.std.proofs.Common.{◌≡◌, ℕ, zero, suc, ◌+◌, ◌-◌, ◌^◌, ◌<◌, ◌≤◌, Bool, true, false, cond, ◌&&◌, ◌⊎◌, ◌↔◌, List, [], ◌∷◌, ◌++◌, length, get_or, sym, refl, ap, ◌∙◌, subst, inl, inr, ⊎_elim, append_assoc, append-nil, arith, length-append}
+use Rattle.std.proofs.Common.{◌≡◌, ℕ, zero, suc, ◌+◌, ◌-◌, ◌^◌, ◌<◌, ◌≤◌, Bool, true, false, cond, ◌&&◌, ◌⊎◌, ◌↔◌, List, [], ◌∷◌, ◌++◌, length, get_or, sym, refl, ap, ◌∙◌, subst, inl, inr, ⊎_elim, append_assoc, append-nil, zero-add, arith, length-append}
 use lib.Bits.{bit_or}
 use Rattle.std.proofs.lemmas.Bool.{true≢false, and_parts, and_from, or_cases, or_left, or_right, eqb-true, eq-eqb, cases_lt}
 use Rattle.std.proofs.lemmas.List.{get_or_append_left, get_or-append_right, get_or_past}
-use Rattle.std.proofs.lemmas.Nat.{or_lt, pow_below, pow_pos}
 use Rattle.rules.specs.Trees.{Tree, empty, leaf, choice, sequence, star, leaves}
 use Rattle.positions.specs.Positions.{nullable, member, first_set, last_set, followed, follow_sets, Spells, spells_empty, spells_leaf, spells_first, spells_second, spells_sequence, spells_none, spells_more}
 use Rattle.positions.specs.Theorems.{SetsMean}
-use Rattle.positions.proofs.Masks.{member_or, member_none, member_one}
-use Rattle.positions.proofs.Local.{Begins, Ends, Follows, Rest, Whole, ends_within, follows_within, spells_whole, whole_spells}
+use Rattle.positions.proofs.Masks.{member_or, member_none, member_one, below_members}
+use Rattle.positions.proofs.Local.{Begins, Ends, Follows, Rest, Whole, begins_within, ends_within, follows_within, spells_whole, whole_spells}
 
 pub never : {X : Type 0} (x : ℕ) → member 0 x ≡ true → X
 never x h = absurd (true≢false (sym h ∙ member_none x))
@@ -287,70 +286,24 @@ follow_means t n k y = (
   λ h. follows_after t n k (n + k) y refl (whole_follows t n (n + k) y h.0 h.1 (spells_whole t n (h.0 ++ (n + k) ∷ y ∷ h.1) h.2)),
 )
 
--- no set member a bit past the tree's leaves
-cond_below : (b : Bool) (a m : ℕ) → a < 2 ^ m → cond b a 0 < 2 ^ m
-cond_below true a m h = h
-cond_below false a m h = pow_pos m
+-- the sets hold no leaf but the tree's
+pub first_below : (t : Tree) (n : ℕ) → first_set t n < 2 ^ (n + leaves t)
+first_below t n = below_members _ _ (λ x h. (begins_within t n x (first_begins t n x h)).1)
 
-pub first_below : (t : Tree) (n m : ℕ) → n + leaves t ≤ m → first_set t n < 2 ^ m
-first_below empty n m le = pow_pos m
-first_below (leaf lo hi) n m le = pow_below n m (omega arith)
-first_below (choice p q) n m le = or_lt m (first_set p n) (first_set q (n + leaves p)) (first_below p n m (omega arith)) (first_below q (n + leaves p) m (omega arith))
-first_below (sequence p q) n m le = or_lt m (first_set p n) (cond (nullable p) (first_set q (n + leaves p)) 0) (first_below p n m (omega arith)) (cond_below (nullable p) (first_set q (n + leaves p)) m (first_below q (n + leaves p) m (omega arith)))
-first_below (star p) n m le = first_below p n m le
+last_below : (t : Tree) (n : ℕ) → last_set t n < 2 ^ (n + leaves t)
+last_below t n = below_members _ _ (λ x h. (ends_within t n x (last_ends t n x h)).1)
 
-pub last_below : (t : Tree) (n m : ℕ) → n + leaves t ≤ m → last_set t n < 2 ^ m
-last_below empty n m le = pow_pos m
-last_below (leaf lo hi) n m le = pow_below n m (omega arith)
-last_below (choice p q) n m le = or_lt m (last_set p n) (last_set q (n + leaves p)) (last_below p n m (omega arith)) (last_below q (n + leaves p) m (omega arith))
-last_below (sequence p q) n m le = or_lt m (cond (nullable q) (last_set p n) 0) (last_set q (n + leaves p)) (cond_below (nullable q) (last_set p n) m (last_below p n m (omega arith))) (last_below q (n + leaves p) m (omega arith))
-last_below (star p) n m le = last_below p n m le
-
--- each number of a list is below b
-abbrev pub AllBelow : ℕ → List ℕ → Type 0
-AllBelow b [] = Unit {0}
-AllBelow b (f ∷ fs) = (f < b) × AllBelow b fs
-
-all_joined : (b : ℕ) (fs gs : List ℕ) → AllBelow b fs → AllBelow b gs → AllBelow b (fs ++ gs)
-all_joined b [] gs h k = k
-all_joined b (f ∷ fs) gs h k = (h.0, all_joined b fs gs h.1 k)
-
-all_followed : (m set more n : ℕ) (fs : List ℕ) → more < 2 ^ m → AllBelow (2 ^ m) fs → AllBelow (2 ^ m) (followed set more n fs)
-all_followed m set more n [] lt h = tt
-all_followed m set more n (f ∷ fs) lt h = (or_lt m f (cond (member set n) more 0) h.0 (cond_below (member set n) more m lt), all_followed m set more (suc n) fs lt h.1)
-
-pub follow_below : (t : Tree) (n m : ℕ) → n + leaves t ≤ m → AllBelow (2 ^ m) (follow_sets t n)
-follow_below empty n m le = tt
-follow_below (leaf lo hi) n m le = (pow_pos m, tt)
-follow_below (choice p q) n m le = all_joined (2 ^ m) (follow_sets p n) (follow_sets q (n + leaves p)) (follow_below p n m (omega arith)) (follow_below q (n + leaves p) m (omega arith))
-follow_below (sequence p q) n m le =
-    all_joined (2 ^ m) (followed (last_set p n) (first_set q (n + leaves p)) n (follow_sets p n)) (follow_sets q (n + leaves p))
-    (all_followed m (last_set p n) (first_set q (n + leaves p)) n (follow_sets p n) (first_below q (n + leaves p) m (omega arith)) (follow_below p n m (omega arith)))
-    (follow_below q (n + leaves p) m (omega arith))
-follow_below (star p) n m le = all_followed m (last_set p n) (first_set p n) n (follow_sets p n) (first_below p n m le) (follow_below p n m le)
-
--- the same for the whole tree
-pub follow_means_whole : (t : Tree) (x y : ℕ) → (member (get_or (follow_sets t 0) x 0) y ≡ true) ↔ ((u v : List ℕ) × Spells t 0 (u ++ x ∷ y ∷ v))
-follow_means_whole t x y = (
-  λ h. follows_spells t 0 x y (after_follows t 0 x x y (omega arith) h),
-  λ h. follows_after t 0 x x y (omega arith) (whole_follows t 0 x y h.0 h.1 (spells_whole t 0 (h.0 ++ x ∷ y ∷ h.1) h.2)),
-)
-
-all_get_d : (b : ℕ) (fs : List ℕ) (k : ℕ) → 0 < b → AllBelow b fs → get_or fs k 0 < b
-all_get_d b [] k z h = z
-all_get_d b (f ∷ fs) zero z h = h.0
-all_get_d b (f ∷ fs) (suc k) z h = all_get_d b fs k z h.1
+pub follow_below : (t : Tree) (n k : ℕ) → after t n k < 2 ^ (n + leaves t)
+follow_below t n k = below_members _ _ (λ y h. (follows_within t n (n + k) y (after_follows t n k (n + k) y refl h)).1.1)
 
 pub sets_mean : (t : Tree) → SetsMean t
-sets_mean t =
-    let zero_more : 0 + leaves t ≤ leaves t = omega arith in
-    record {
-      none = nullable_means t 0;
-      first = first_means t 0;
-      last = last_means t 0;
-      follow = follow_means_whole t;
-      one_each = length_follow_sets t 0;
-      first_fits = first_below t 0 (leaves t) zero_more;
-      last_fits = last_below t 0 (leaves t) zero_more;
-      follow_fits = λ x. all_get_d (2 ^ leaves t) (follow_sets t 0) x (pow_pos (leaves t)) (follow_below t 0 (leaves t) zero_more);
-    }
+sets_mean t = record {
+  none = nullable_means t 0;
+  first = first_means t 0;
+  last = last_means t 0;
+  follow = λ x y. rw (zero-add x) at (follow_means t 0 x y);
+  one_each = length_follow_sets t 0;
+  first_fits = rw (zero-add (leaves t)) at (first_below t 0);
+  last_fits = rw (zero-add (leaves t)) at (last_below t 0);
+  follow_fits = λ x. rw (zero-add (leaves t)) at (follow_below t 0 x);
+}

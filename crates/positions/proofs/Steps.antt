@@ -12,10 +12,10 @@ use Rattle.positions.proofs.Meanings.{never, or_either, in_left, in_right, if_bo
 use Rattle.positions.proofs.Runs.{length_leaf_of, runs_exactly}
 
 -- leaf k of the list holds s
-abbrev Holds : List (ℕ × ℕ) → ℕ → Sight → Type 0
+abbrev pub Holds : List (ℕ × ℕ) → ℕ → Sight → Type 0
 Holds ls k s = s (get_or ls k (0, 0)).0 (get_or ls k (0, 0)).1 ≡ true
 
-holders_sound : (ls : List (ℕ × ℕ)) (n : ℕ) (s : Sight) (x : ℕ) → member (holders ls n s) x ≡ true → (k : ℕ) × (x ≡ n + k) × Holds ls k s
+pub holders_sound : (ls : List (ℕ × ℕ)) (n : ℕ) (s : Sight) (x : ℕ) → member (holders ls n s) x ≡ true → (k : ℕ) × (x ≡ n + k) × Holds ls k s
 holders_sound [] n s x h = never x h
 holders_sound (l ∷ ls) n s x h =
     ⊎_elim
@@ -23,12 +23,12 @@ holders_sound (l ∷ ls) n s x h =
     (λ a. let b = holders_sound ls (suc n) s x a in (suc b.0, omega (arith, b.1), b.2))
     (or_either (cond (s l.0 l.1) (2 ^ n) 0) (holders ls (suc n) s) x h)
 
-holders_full : (ls : List (ℕ × ℕ)) (n : ℕ) (s : Sight) (k x : ℕ) → x ≡ n + k → k < length ls → Holds ls k s → member (holders ls n s) x ≡ true
+pub holders_full : (ls : List (ℕ × ℕ)) (n : ℕ) (s : Sight) (k x : ℕ) → x ≡ n + k → k < length ls → Holds ls k s → member (holders ls n s) x ≡ true
 holders_full [] n s k x e lt h = absurd (omega arith)
 holders_full (l ∷ ls) n s zero x e lt h = in_left (cond (s l.0 l.1) (2 ^ n) 0) (holders ls (suc n) s) x (both_if (s l.0 l.1) (2 ^ n) x h (member_one n x ∙ eq-eqb x n (omega arith)))
 holders_full (l ∷ ls) n s (suc k) x e lt h = in_right (cond (s l.0 l.1) (2 ^ n) 0) (holders ls (suc n) s) x (holders_full ls (suc n) s k x (omega arith) (omega arith) h)
 
-followers_sound : (fs : List ℕ) (n set y : ℕ) → member (followers fs n set) y ≡ true → (k : ℕ) × (member set (n + k) ≡ true) × (member (get_or fs k 0) y ≡ true)
+pub followers_sound : (fs : List ℕ) (n set y : ℕ) → member (followers fs n set) y ≡ true → (k : ℕ) × (member set (n + k) ≡ true) × (member (get_or fs k 0) y ≡ true)
 followers_sound [] n set y h = never y h
 followers_sound (f ∷ fs) n set y h =
     ⊎_elim
@@ -36,7 +36,7 @@ followers_sound (f ∷ fs) n set y h =
     (λ a. let b = followers_sound fs (suc n) set y a in let e : suc n + b.0 ≡ n + suc b.0 = omega arith in (suc b.0, subst (λ m. member set m ≡ true) e b.1, b.2))
     (or_either (cond (member set n) f 0) (followers fs (suc n) set) y h)
 
-followers_full : (fs : List ℕ) (n set k x y : ℕ) → x ≡ n + k → member set x ≡ true → member (get_or fs k 0) y ≡ true → member (followers fs n set) y ≡ true
+pub followers_full : (fs : List ℕ) (n set k x y : ℕ) → x ≡ n + k → member set x ≡ true → member (get_or fs k 0) y ≡ true → member (followers fs n set) y ≡ true
 followers_full [] n set k x y e h g = g
 followers_full (f ∷ fs) n set zero x y e h g =
     let d : x ≡ n = omega arith in

@@ -1,4 +1,5 @@
 pub mod Positions
+pub mod LeafSets
 pub mod Steps
 pub mod SetsOf
 pub mod Visits

@@ -1,14 +1,10 @@
 -- What visiting a node of a rule tells, and what it writes. Assumes nothing.
-use Rattle.std.specs.Prelude.{◌≡◌, ℕ, ◌+◌, ◌≤◌, cond, ◌&&◌, ◌||◌, List, ◌++◌, length, drop, replicate, bit_or}
+use Rattle.std.specs.Prelude.{◌≡◌, ℕ, ◌+◌, ◌^◌, ◌≤◌, true, false, cond, ◌&&◌, ◌||◌, List, ◌++◌, length, replicate, bit_or}
 use Rattle.rules.specs.declared.row.Row.{Row}
-use Rattle.rules.specs.Trees.{Tree, rows, size, leaves}
+use Rattle.rules.specs.Trees.{Tree, size, leaves}
+use Rattle.rules.specs.Nodes.{Stands}
 use Rattle.positions.specs.declared.sets.visit.Part.{Part}
 use Rattle.positions.specs.Positions.{nullable, first_set, last_set, follow_sets}
-
--- the rows of s stand from row n on
-pub record Stands (rs : List Row) (n : ℕ) (s : Tree) : Type 0 where
-  pub rest : List Row
-  pub is : drop n rs ≡ rows s ++ rest
 
 -- a tree stands from row n on, and its leaves, numbered from x on, are below 32
 pub record Placed (rs : List Row) (n x : ℕ) : Type 0 where
@@ -19,6 +15,13 @@ pub record Placed (rs : List Row) (n x : ℕ) : Type 0 where
 -- what the visit of s at row n, with leaves from x on, tells
 abbrev pub told : Tree → ℕ → ℕ → Part
 told s n x = record { nullable = nullable s; first = first_set s x; last = last_set s x; next_node = n + size s; next_leaf = x + leaves s }
+
+-- an empty, and a leaf, with the numbers of the next node and of this or the next leaf
+abbrev pub empty_part : ℕ → ℕ → Part
+empty_part node leaf = record { nullable = true; first = 0; last = 0; next_node = node; next_leaf = leaf }
+
+abbrev pub leaf_part : ℕ → ℕ → Part
+leaf_part node leaf = record { nullable = false; first = 2 ^ leaf; last = 2 ^ leaf; next_node = node; next_leaf = leaf + 1 }
 
 -- a choice of two parts, the second standing behind the first
 abbrev pub either : Part → Part → Part

@@ -5,6 +5,7 @@ pub mod run;
 mod visit;
 
 // The position sets of a rule. Leaves have numbers in node order, those under stars too, and a set has bit p for leaf p.
+// The arrays are of fixed size, since a rule's sets are made with no heap, and two, since a sheet copies the follow sets as one slice.
 #[derive(Clone, Copy)]
 pub struct Positions {
     // Whether the rule takes the name of no symbol.

@@ -1,22 +1,16 @@
 ghost use Rattle.positions.specs.Theorems.{RunsExactly, SetsExactly, StepsExactly};
 
 // First, last and follow sets are those that the words of leaf numbers say.
-pub fn sets_mean_the_words() -> u8
+pub fn sets_mean_the_words()
     ensures { SetsExactly }
-{
-    0
-}
+{}
 
 // A name has a run of the position sets exactly where it is in the rule's language.
-pub fn runs_are_the_language() -> u8
+pub fn runs_are_the_language()
     ensures { RunsExactly }
-{
-    0
-}
+{}
 
 // The steps on masks accept a name exactly where it is in the rule's language.
-pub fn steps_are_the_language() -> u8
+pub fn steps_are_the_language()
     ensures { StepsExactly }
-{
-    0
-}
+{}

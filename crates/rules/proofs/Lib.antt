@@ -1,5 +1,6 @@
 pub mod Numbers
 pub mod RowFacts
+pub mod Nodes
 pub mod Parts
 pub mod Decide
 pub mod ReadingFacts

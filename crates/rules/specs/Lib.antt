@@ -6,4 +6,5 @@ pub mod Readings
 pub mod Alphabets
 pub mod Checks
 pub mod RuleRows
+pub mod Nodes
 pub mod Theorems

@@ -1,4 +1,4 @@
-ghost use Rattle.std.specs.Prelude.{◌≡◌, ◌-◌, ◌++◌, replicate};
+ghost use Rattle.std.specs.Prelude.{◌≡◌, ◌-◌, ◌++◌, cond, ◌==◌, Some, None, replicate};
 ghost use Rattle.rules.specs.RuleRows.{Ruled, rule_rows};
 ghost use Rattle.rules.specs.Trees.{Tree, Of, leaves as leaf-count};
 ghost use Rattle.positions.specs.Positions.{leaf_of};
@@ -6,8 +6,17 @@ ghost use Rattle.positions.specs.SetsOf.{SetsOf};
 
 use super::Positions;
 use super::visit::visit;
-use rules::row::LEAF;
-use rules::{Row, Rule};
+use rules::{Kind, Row, Rule};
+
+// The lo and hi of a row that is a leaf's.
+fn leaf_of_row(row: &Row) -> Option<(u32, u32)>
+    ensures { result ≡ cond (row.now.kind == 1) (Some (row.now.lo, row.now.hi)) None }
+{
+    match Kind::try_from(row.kind) {
+        Ok(Kind::Leaf) => Some((row.lo, row.hi)),
+        _ => None,
+    }
+}
 
 // The lo and hi of each leaf, and zeros behind them.
 fn leaves_of(rows: &[Row]) -> [(u32, u32); 32]
@@ -15,12 +24,8 @@ fn leaves_of(rows: &[Row]) -> [(u32, u32); 32]
     ensures { (t : Tree) → Of rows.now t → result ≡ leaf_of t ++ replicate (32 - leaf-count t) (0, 0) }
 {
     let mut leaves = [(0, 0); 32];
-    let mut count = 0;
-    for row in rows {
-        if row.kind == LEAF {
-            leaves[count] = (row.lo, row.hi);
-            count += 1;
-        }
+    for (p, leaf) in rows.iter().filter_map(leaf_of_row).enumerate() {
+        leaves[p] = leaf;
     }
     leaves
 }

@@ -1,25 +1,22 @@
 ghost use Rattle.std.specs.Prelude.{◌≡◌, true, ◌↔◌, bit_and};
 ghost use Rattle.rules.specs.Languages.{In, seen};
 ghost use Rattle.rules.specs.Trees.{Tree};
-ghost use Rattle.positions.specs.SetsOf.{SetsOf, kept_follow, kept_leaves};
+ghost use Rattle.positions.specs.SetsOf.{SetsOf};
 ghost use Rattle.positions.specs.Steps.{followers, holders, step};
 
 use super::Positions;
-use crate::leaf_set::member;
+use crate::leaf_set::Leaves;
 use rules::Alphabet;
 
 impl Positions {
     // The leaves of the set that hold the symbol; a leaf outside the set is not asked.
     fn holders<A: Alphabet>(&self, alphabet: &A, set: u32, symbol: &A::Symbol) -> u32
-        ensures { result ≡ bit_and set (holders (kept_leaves self.now) 0 (λ lo hi. A.Alphabet.held alphabet.now lo hi symbol.now)) }
+        ensures { result ≡ bit_and set (holders self.now.leaves 0 (λ lo hi. A.Alphabet.held alphabet.now lo hi symbol.now)) }
     {
         let mut held = 0;
-        for p in set.trailing_zeros() as usize..self.count {
-            if set >> p == 0 {
-                return held;
-            }
-            let leaf = self.leaves[p];
-            if member(set, p) && alphabet.holds(leaf.0, leaf.1, symbol) {
+        for p in Leaves(set) {
+            let (lo, hi) = self.leaves[p];
+            if alphabet.holds(lo, hi, symbol) {
                 held |= 1 << p;
             }
         }
@@ -28,21 +25,16 @@ impl Positions {
 
     // The leaves that follow one of the set.
     fn followers(&self, set: u32) -> u32
-        ensures { result ≡ followers (kept_follow self.now) 0 set }
+        ensures { result ≡ followers self.now.follow 0 set }
     {
         let mut next = 0;
-        for p in set.trailing_zeros() as usize..self.count {
-            if set >> p == 0 {
-                return next;
-            }
-            if member(set, p) {
-                next |= self.follow[p];
-            }
+        for p in Leaves(set) {
+            next |= self.follow[p];
         }
         next
     }
 
-    // The leaves reached from those of the set by the symbol.
+    // The leaves reached from those of the set by the symbol. It takes what holders takes, being a holders of what follows.
     fn step<A: Alphabet>(&self, alphabet: &A, set: u32, symbol: &A::Symbol) -> u32
         ensures { (t : Tree) → SetsOf t self.now → result ≡ step t set (λ lo hi. A.Alphabet.held alphabet.now lo hi symbol.now) }
     {

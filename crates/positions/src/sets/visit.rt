@@ -1,10 +1,9 @@
-ghost use Rattle.std.specs.Prelude.{◌≡◌};
+ghost use Rattle.std.specs.Prelude.{◌≡◌, ◌<◌};
 ghost use Rattle.positions.specs.Positions.{followed};
-ghost use Rattle.positions.specs.Visits.{Placed, Visited, both, either};
+ghost use Rattle.positions.specs.Visits.{Placed, Visited, both, either, empty_part, leaf_part};
 
 use crate::leaf_set::member;
-use rules::Row;
-use rules::row::{CHOICE, EMPTY, LEAF, STAR};
+use rules::{Kind, Row};
 
 // What the visit of a node tells of the part of the rule that stands there, and the numbers of the next node and leaf.
 #[derive(Clone, Copy)]
@@ -16,13 +15,41 @@ pub(crate) struct Part {
     pub next_leaf: usize,
 }
 
+// An empty.
+fn empty_part(next_node: usize, next_leaf: usize) -> Part
+    ensures { result ≡ empty_part next_node next_leaf }
+{
+    Part {
+        nullable: true,
+        first: 0,
+        last: 0,
+        next_node,
+        next_leaf,
+    }
+}
+
+// A leaf, which has the given number.
+fn leaf_part(next_node: usize, leaf: usize) -> Part
+    requires { leaf < 32 }
+    ensures { result ≡ leaf_part next_node leaf }
+{
+    let bit = 1 << leaf;
+    Part {
+        nullable: false,
+        first: bit,
+        last: bit,
+        next_node,
+        next_leaf: leaf + 1,
+    }
+}
+
 // Each leaf of the set is followed by the leaves of more too.
 fn link(follow: &mut [u32], set: u32, more: u32)
     ensures { follow.new ≡ followed set more 0 follow.old }
 {
-    for p in 0..follow.len() {
+    for (p, next) in follow.iter_mut().enumerate() {
         if member(set, p) {
-            follow[p] |= more;
+            *next |= more;
         }
     }
 }
@@ -60,39 +87,29 @@ pub(crate) fn visit(rows: &[Row], node: usize, leaf: usize, follow: &mut [u32]) 
     requires { Placed rows.now node leaf }
     ensures { Visited rows.now node leaf follow.old result follow.new }
 {
-    let kind = rows[node].kind;
     let next = node + 1;
-    if kind == EMPTY {
-        return Part {
-            nullable: true,
-            first: 0,
-            last: 0,
-            next_node: next,
-            next_leaf: leaf,
-        };
+    match Kind::try_from(rows[node].kind) {
+        Ok(Kind::Empty) => empty_part(next, leaf),
+        Ok(Kind::Leaf) => leaf_part(next, leaf),
+        Ok(Kind::Choice) => {
+            let one = visit(rows, next, leaf, follow);
+            let two = visit(rows, one.next_node, one.next_leaf, follow);
+            either(one, two)
+        }
+        Ok(Kind::Sequence) => {
+            let one = visit(rows, next, leaf, follow);
+            let two = visit(rows, one.next_node, one.next_leaf, follow);
+            link(follow, one.last, two.first);
+            both(one, two)
+        }
+        Ok(Kind::Star) => {
+            let one = visit(rows, next, leaf, follow);
+            link(follow, one.last, one.first);
+            Part {
+                nullable: true,
+                ..one
+            }
+        }
+        Err(_) => unreachable(),
     }
-    if kind == LEAF {
-        let bit = 1 << leaf;
-        return Part {
-            nullable: false,
-            first: bit,
-            last: bit,
-            next_node: next,
-            next_leaf: leaf + 1,
-        };
-    }
-    let one = visit(rows, next, leaf, follow);
-    if kind == STAR {
-        link(follow, one.last, one.first);
-        return Part {
-            nullable: true,
-            ..one
-        };
-    }
-    let two = visit(rows, one.next_node, one.next_leaf, follow);
-    if kind == CHOICE {
-        return either(one, two);
-    }
-    link(follow, one.last, two.first);
-    both(one, two)
 }
