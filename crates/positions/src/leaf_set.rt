@@ -11,7 +11,7 @@ pub fn member(set: u32, p: usize) -> bool
 }
 
 // The leaves of a set, lowest first.
-#[derive(Clone, Copy)]
+#[derive(Drop)]
 pub(crate) struct Leaves(pub u32);
 
 impl Iterator for Leaves {
