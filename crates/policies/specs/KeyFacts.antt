@@ -23,8 +23,8 @@ first_faithful = record { at_none = λ kind. refl; at_some = λ kind len. some (
 -- lists put together, taken apart
 append_apart : {A : Type 0} (a b c d : List A) → length a ≡ length c → a ++ b ≡ c ++ d → (a ≡ c) × (b ≡ d)
 append_apart [] b [] d l e = (refl, e)
-append_apart [] b (y ∷ c) d l e = absurd (let f : 0 ≡ suc (length c) = l in omega arith)
-append_apart (x ∷ a) b [] d l e = absurd (let f : suc (length a) ≡ 0 = l in omega arith)
+append_apart [] b (y ∷ c) d l e = absurd (omega arith)
+append_apart (x ∷ a) b [] d l e = absurd (omega arith)
 append_apart (x ∷ a) b (y ∷ c) d l e =
     let f : x ≡ y = cc in
     let g : a ++ b ≡ c ++ d = cc in
@@ -34,22 +34,22 @@ append_apart (x ∷ a) b (y ∷ c) d l e =
 
 keys_append : (key : Key) (a b : List Row) (x y : Reading) → length a ≡ length x → keys key (a ++ b) (x ++ y) ≡ keys key a x ++ keys key b y
 keys_append key [] b [] y l = refl
-keys_append key [] b (e ∷ x) y l = absurd (let f : 0 ≡ suc (length x) = l in omega arith)
-keys_append key (r ∷ a) b [] y l = absurd (let f : suc (length a) ≡ 0 = l in omega arith)
+keys_append key [] b (e ∷ x) y l = absurd (omega arith)
+keys_append key (r ∷ a) b [] y l = absurd (omega arith)
 keys_append key (r ∷ a) b (e ∷ x) y l = ap {B = List ℕ} (λ z. key r.kind (extent e) ∷ z) (keys_append key a b x y (omega arith))
 
 -- rows past the reading do not count
 pub keys_rest : (key : Key) (a b : List Row) (x : Reading) → length a ≡ length x → keys key (a ++ b) x ≡ keys key a x
 keys_rest key [] [] [] l = refl
 keys_rest key [] (r ∷ b) [] l = refl
-keys_rest key [] [] (e ∷ x) l = absurd (let f : 0 ≡ suc (length x) = l in omega arith)
-keys_rest key [] (r ∷ b) (e ∷ x) l = absurd (let f : 0 ≡ suc (length x) = l in omega arith)
+keys_rest key [] [] (e ∷ x) l = absurd (omega arith)
+keys_rest key [] (r ∷ b) (e ∷ x) l = absurd (omega arith)
 keys_rest key (r ∷ a) b [] l = refl
 keys_rest key (r ∷ a) b (e ∷ x) l = ap {B = List ℕ} (λ z. key r.kind (extent e) ∷ z) (keys_rest key a b x (omega arith))
 
 length_keys : (key : Key) (a : List Row) (x : Reading) → length a ≡ length x → length (keys key a x) ≡ length a
 length_keys key [] x l = refl
-length_keys key (r ∷ a) [] l = absurd (let f : suc (length a) ≡ 0 = l in omega arith)
+length_keys key (r ∷ a) [] l = absurd (omega arith)
 length_keys key (r ∷ a) (e ∷ x) l = ap suc (length_keys key a x (omega arith))
 
 pub keys_first : (key : Key) (t : Tree) (e : Option (ℕ × ℕ)) (x : Reading) → keys key (rows t) (e ∷ x) ≡ key (first_row t).0.kind (extent e) ∷ keys key (first_row t).1 x
@@ -81,6 +81,10 @@ head_same e = cc
 tail_same : {A : Type 0} {x y : A} {a b : List A} → x ∷ a ≡ y ∷ b → a ≡ b
 tail_same e = cc
 
+-- the same keys, of readings written otherwise
+same_keys : (key : Key) (rs : List Row) {x y u v : Reading} → x ≡ u → y ≡ v → keys key rs x ≡ keys key rs y → keys key rs u ≡ keys key rs v
+same_keys key rs f g e = sym (ap (keys key rs) f) ∙ e ∙ ap (keys key rs) g
+
 -- Readings with one start and the same keys are the same
 abbrev Tells : Key → Tree → Type 0
 Tells key t = (w : List Sight) (i j k : ℕ) (x y : Reading) → Reads w t i j x → Reads w t i k y → keys key (rows t) x ≡ keys key (rows t) y → (j ≡ k) × (x ≡ y)
@@ -97,23 +101,23 @@ keys_apart key n p q e f x y u v l m h =
 tells_choice : {key : Key} → Faithful key → (p q : Tree) → Tells key p → Tells key q → (w : List Sight) (i j k : ℕ) (x y : Reading)
     → ReadsCases w (choice p q) i j x → ReadsCases w (choice p q) i k y → keys key (rows (choice p q)) x ≡ keys key (rows (choice p q)) y → (j ≡ k) × (x ≡ y)
 tells_choice {key} f p q hp hq w i j k x y (inl a) (inl b) e =
-    let e1 = sym (ap (λ (z : Reading). keys key (rows (choice p q)) z) a.2) ∙ e ∙ ap (λ (z : Reading). keys key (rows (choice p q)) z) b.2 in
+    let e1 = same_keys key (rows (choice p q)) a.2 b.2 e in
     let c = keys_apart key 2 p q (stretch i j) (stretch i k) a.0 (nothing q) b.0 (nothing q) (reads_rows a.1) (reads_rows b.1) e1 in
     let d = hp w i j k a.0 b.0 a.1 b.1 c.0 in
     (d.0, a.2 ∙ ap₂ (λ (m : ℕ) (z : Reading). stretch i m ∷ (z ++ nothing q)) d.0 d.1 ∙ sym b.2)
 tells_choice {key} f p q hp hq w i j k x y (inr a) (inr b) e =
-    let e1 = sym (ap (λ (z : Reading). keys key (rows (choice p q)) z) a.2) ∙ e ∙ ap (λ (z : Reading). keys key (rows (choice p q)) z) b.2 in
+    let e1 = same_keys key (rows (choice p q)) a.2 b.2 e in
     let l = nothing_rows p in
     let c = keys_apart key 2 p q (stretch i j) (stretch i k) (nothing p) a.0 (nothing p) b.0 l l e1 in
     let d = hq w i j k a.0 b.0 a.1 b.1 c.1 in
     (d.0, a.2 ∙ ap₂ (λ (m : ℕ) (z : Reading). stretch i m ∷ (nothing p ++ z)) d.0 d.1 ∙ sym b.2)
 tells_choice {key} f p q hp hq w i j k x y (inl a) (inr b) e =
-    let e1 = sym (ap (λ (z : Reading). keys key (rows (choice p q)) z) a.2) ∙ e ∙ ap (λ (z : Reading). keys key (rows (choice p q)) z) b.2 in
+    let e1 = same_keys key (rows (choice p q)) a.2 b.2 e in
     let l = nothing_rows p in
     let t = tail_same (sym (keys_two key 2 p (rows q) (stretch i j) a.0 (nothing q) (reads_rows a.1)) ∙ e1 ∙ keys_two key 2 p (rows q) (stretch i k) (nothing p) b.0 l) in
     absurd (part_differs f a.1 (keys key (rows q) (nothing q)) (keys key (rows q) b.0) t)
 tells_choice {key} f p q hp hq w i j k x y (inr a) (inl b) e =
-    let e1 = sym (ap (λ (z : Reading). keys key (rows (choice p q)) z) a.2) ∙ e ∙ ap (λ (z : Reading). keys key (rows (choice p q)) z) b.2 in
+    let e1 = same_keys key (rows (choice p q)) a.2 b.2 e in
     let l = nothing_rows p in
     let t = tail_same (sym (keys_two key 2 p (rows q) (stretch i j) (nothing p) a.0 l) ∙ e1 ∙ keys_two key 2 p (rows q) (stretch i k) b.0 (nothing q) (reads_rows b.1)) in
     absurd (part_differs f b.1 (keys key (rows q) (nothing q)) (keys key (rows q) a.0) (sym t))
@@ -121,7 +125,7 @@ tells_choice {key} f p q hp hq w i j k x y (inr a) (inl b) e =
 tells_sequence : (key : Key) → (p q : Tree) → Tells key p → Tells key q → (w : List Sight) (i j k : ℕ) (x y : Reading)
     → ReadsCases w (sequence p q) i j x → ReadsCases w (sequence p q) i k y → keys key (rows (sequence p q)) x ≡ keys key (rows (sequence p q)) y → (j ≡ k) × (x ≡ y)
 tells_sequence key p q hp hq w i j k x y a b e =
-    let e1 = sym (ap (λ (z : Reading). keys key (rows (sequence p q)) z) a.5) ∙ e ∙ ap (λ (z : Reading). keys key (rows (sequence p q)) z) b.5 in
+    let e1 = same_keys key (rows (sequence p q)) a.5 b.5 e in
     let c = keys_apart key 3 p q (stretch i j) (stretch i k) a.1 a.2 b.1 b.2 (reads_rows a.3) (reads_rows b.3) e1 in
     let d = hp w i a.0 b.0 a.1 b.1 a.3 b.3 c.0 in
     let g = hq w b.0 j k a.2 b.2 (subst (λ (z : ℕ). Reads w q z j a.2) d.0 a.4) b.4 c.1 in
@@ -132,7 +136,7 @@ tells_star : {key : Key} → Faithful key → (p : Tree) → (w : List Sight) (i
     → ReadsCases w (star p) i j x → ReadsCases w (star p) i k y → keys key (rows (star p)) x ≡ keys key (rows (star p)) y → (j ≡ k) × (x ≡ y)
 tells_star {key} f p w i j k x y a b e =
     let e1 : key 4 (extent (stretch i j)) ∷ keys key (rows p) (nothing p) ≡ key 4 (extent (stretch i k)) ∷ keys key (rows p) (nothing p)
-    = sym (ap (λ (z : Reading). keys key (rows (star p)) z) a.3) ∙ e ∙ ap (λ (z : Reading). keys key (rows (star p)) z) b.3 in
+    = same_keys key (rows (star p)) a.3 b.3 e in
     let e2 : key 4 (extent (stretch i j)) ≡ key 4 (extent (stretch i k)) = head_same e1 in
     let h1 : i ≤ j = a.0 in
     let h2 : i ≤ k = b.0 in

@@ -1,5 +1,5 @@
 -- Lists of numbers, compared at the first place where they differ.
-use Rattle.std.specs.Prelude.{◌≡◌, ℕ, suc, ◌<◌, ◌≤◌, Bool, true, false, cond, ltb, ◌⊎◌, List, [], ◌∷◌, ◌++◌, length, ◌==◌, ◌≢◌, nat_eq, nat_lt, refl}
+use Rattle.std.specs.Prelude.{◌≡◌, ℕ, ◌<◌, ◌≤◌, Bool, true, false, cond, ltb, ◌⊎◌, List, [], ◌∷◌, ◌++◌, length, ◌==◌, ◌≢◌, nat_eq, nat_lt, refl}
 use Rattle.std.proofs.Common.{sym, ◌∙◌, subst, inl, inr, arith}
 use borrow.Author.Tests.{ltb-true, ltb-false, eqb-true, eqb-false, lt-ltb, le-ltb, eq-eqb, clash}
 use Rattle.policies.specs.Keys.{lex_above}
@@ -83,7 +83,7 @@ lex_carries (x ∷ xs) (y ∷ ys) (z ∷ zs) h k = go (lex_cases x xs y ys h) (l
 -- lists of one length, the one above: it stays above whatever follows
 pub lex_extend : (xs ys us vs : List ℕ) → length xs ≡ length ys → lex_above xs ys ≡ true → lex_above (xs ++ us) (ys ++ vs) ≡ true
 lex_extend [] ys us vs l h = absurd (clash h)
-lex_extend (x ∷ xs) [] us vs l h = absurd (let e : suc (length xs) ≡ 0 = l in omega arith)
+lex_extend (x ∷ xs) [] us vs l h = absurd (omega arith)
 lex_extend (x ∷ xs) (y ∷ ys) us vs l h = go (lex_cases x xs y ys h) (lex_extend xs ys us vs (omega arith))
   where
     go : LexCases x xs y ys → (lex_above xs ys ≡ true → lex_above (xs ++ us) (ys ++ vs) ≡ true) → lex_above (x ∷ (xs ++ us)) (y ∷ (ys ++ vs)) ≡ true

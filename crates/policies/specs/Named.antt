@@ -1,9 +1,12 @@
--- The orders of the two policies that can be named. Assumes nothing.
+-- The keys and the orders of the two policies that can be named. Assumes nothing.
 use Rattle.policies.specs.declared.named.NamedPolicy.{NamedPolicy}
 use Rattle.policies.specs.declared.named.NamedPolicy.TheVariants.{Posix, FirstLongest}
 use Rattle.policies.specs.Orders.{Order}
-use Rattle.policies.specs.Keys.{posix_above, first_above}
+use Rattle.policies.specs.Keys.{Key, above_by, posix_key, first_key}
+
+abbrev pub named_key : NamedPolicy → Key
+named_key Posix = posix_key
+named_key FirstLongest = first_key
 
 abbrev pub named_above : NamedPolicy → Order
-named_above Posix = posix_above
-named_above FirstLongest = first_above
+named_above p = above_by (named_key p)

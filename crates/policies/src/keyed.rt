@@ -1,7 +1,8 @@
-ghost use Rattle.std.specs.Prelude.{◌≡◌, length};
-ghost use Rattle.policies.specs.Keys.{Key, Faithful, NodesCompare, KeysCompare, above_by, extent, keys};
-ghost use Rattle.policies.specs.Orders.{Ranks};
+ghost use Rattle.std.specs.Prelude.{◌≡◌};
+ghost use Rattle.policies.specs.Keys.{Key, Faithful, NodesCompare, above_by, extent};
+ghost use Rattle.policies.specs.KeyOrder;
 
+use crate::policy::Policy;
 use rules::Row;
 use std::cmp::Ordering;
 
@@ -16,50 +17,35 @@ pub trait Keyed {
     ghost faithful: { (self : Self) → Faithful (key self) };
 }
 
-// The length of a stretch. Off readings the end may come before the start, so it saturates.
+// The length of a stretch.
 fn length_of(entry: Option<(usize, usize)>) -> Option<usize>
     ensures { result ≡ extent entry }
 {
-    match entry {
-        None => None,
-        Some((start, end)) => Some(end.saturating_sub(start)),
-    }
+    // Off readings the end may come before the start, so it saturates.
+    entry.map(|(start, end)| end.saturating_sub(start))
 }
 
-// Compares two readings, over the rows of the nodes that their entries belong to.
-fn walk<K: Keyed>(
-    keyed: &K,
-    rows: &[Row],
-    first: &[Option<(usize, usize)>],
-    second: &[Option<(usize, usize)>],
-) -> Ordering
-    ensures { length first.now ≡ length second.now → KeysCompare (keys (K.key keyed.now) rows.now first.now) (keys (K.key keyed.now) rows.now second.now) result }
-{
-    let n = rows.len().min(first.len()).min(second.len());
-    for i in 0..n {
-        let a = length_of(first[i]);
-        let b = length_of(second[i]);
-        match keyed.compare(rows[i].kind, a, b) {
-            Ordering::Less => return Ordering::Less,
-            Ordering::Greater => return Ordering::Greater,
-            Ordering::Equal => {}
-        }
-    }
-    Ordering::Equal
-}
+// Every policy that goes by keys.
+impl<K: Keyed> Policy for K {
+    ghost above = { λ self. above_by (K.key self) };
 
-// The rank of every policy that goes by keys.
-pub fn rank_by_keys<K: Keyed>(
-    keyed: &K,
-    rows: &[Row],
-    node: usize,
-    first: &[Option<(usize, usize)>],
-    second: &[Option<(usize, usize)>],
-) -> Ordering
-    ensures { Ranks (above_by (K.key keyed.now)) rows.now node first.now second.now result }
-{
-    if node > rows.len() {
-        return Ordering::Equal;
+    ghost decided = { λ self. KeyOrder.decided (K.faithful self) };
+
+    ghost replaced = { λ self. KeyOrder.replaced (K.key self) };
+
+    fn rank(
+        &self,
+        rows: &[Row],
+        node: usize,
+        first: &[Option<(usize, usize)>],
+        second: &[Option<(usize, usize)>],
+    ) -> Ordering {
+        rows.iter()
+            .skip(node)
+            .zip(first)
+            .zip(second)
+            .map(|((row, a), b)| self.compare(row.kind, length_of(*a), length_of(*b)))
+            .find(|order| order.is_ne())
+            .unwrap_or(Ordering::Equal)
     }
-    walk(keyed, &rows[node..], first, second)
 }

@@ -9,6 +9,7 @@ pub trait Policy {
     ghost above: { Self → Order };
 
     // Compares two readings at a node: greater where the first outranks the second.
+    // Rows and node are two parameters, since a struct of both would be made for this call alone.
     fn rank(
         &self,
         rows: &[Row],

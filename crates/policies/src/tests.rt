@@ -7,20 +7,24 @@ use rules::row::{CHOICE, EMPTY, LEAF, SEQUENCE, STAR};
 use std::cmp::Ordering;
 use std::process::Abort;
 
-// The policy ranks the two readings so, and each beside itself as equal.
-fn ranks_two<P: Policy>(
-    rt: &impl Abort,
-    policy: &P,
-    rows: &[Row],
+// Two readings of one stretch by a node.
+#[derive(Clone, Copy)]
+struct Pair<'a> {
+    rows: &'a [Row],
     node: usize,
-    one: &[Option<(usize, usize)>],
-    two: &[Option<(usize, usize)>],
-    want: Ordering,
-) {
-    assert_eq!(rt; policy.rank(rows, node, one, two), want);
-    assert_eq!(rt; policy.rank(rows, node, two, one), want.reverse());
-    assert_eq!(rt; policy.rank(rows, node, one, one), Ordering::Equal);
-    assert_eq!(rt; policy.rank(rows, node, two, two), Ordering::Equal);
+    one: &'a [Option<(usize, usize)>],
+    two: &'a [Option<(usize, usize)>],
+}
+
+impl Pair<'_> {
+    // The policy ranks the two readings so, and each beside itself as equal.
+    fn ranks<P: Policy>(&self, rt: &impl Abort, policy: &P, want: Ordering) {
+        let rank = |x, y| policy.rank(self.rows, self.node, x, y);
+        assert_eq!(rt; rank(self.one, self.two), want);
+        assert_eq!(rt; rank(self.two, self.one), want.reverse());
+        assert_eq!(rt; rank(self.one, self.one), Ordering::Equal);
+        assert_eq!(rt; rank(self.two, self.two), Ordering::Equal);
+    }
 }
 
 // The rule (a|ab)(b|) on ab, read by ab and then nothing, and by a and then b.
@@ -58,7 +62,13 @@ fn ranks<P: Policy>(rt: &impl Abort, policy: &P, want: Ordering) {
         Some((1, 2)),
         None,
     ];
-    ranks_two(rt, policy, &rows, 0, &long, &short, want);
+    let pair = Pair {
+        rows: &rows,
+        node: 0,
+        one: &long,
+        two: &short,
+    };
+    pair.ranks(rt, policy, want);
 }
 
 // The rule b(a*a*) on baa: its second part, where the first star takes both letters or one.
@@ -74,7 +84,13 @@ fn ranks_stars<P: Policy>(rt: &impl Abort, policy: &P, want: Ordering) {
     ];
     let both = [Some((1, 3)), Some((1, 3)), None, Some((3, 3)), None];
     let one = [Some((1, 3)), Some((1, 2)), None, Some((2, 3)), None];
-    ranks_two(rt, policy, &rows, 2, &both, &one, want);
+    let pair = Pair {
+        rows: &rows,
+        node: 2,
+        one: &both,
+        two: &one,
+    };
+    pair.ranks(rt, policy, want);
 }
 
 #[test]
