@@ -7,7 +7,7 @@ use Rattle.rules.specs.Readings.{Reading, Reads, reads_empty, reads_leaf, reads_
 use Rattle.rules.proofs.Parts.{empty_part, leaf_part}
 use Rattle.rules.proofs.ReadingFacts.{ReadsCases, reads_cases}
 use Rattle.policies.specs.Orders.{Order}
-use Rattle.matcher.specs.Sizes.{Stands}
+use Rattle.rules.specs.Nodes.{Stands}
 use Rattle.matcher.specs.Unpacking.{unpacked}
 use Rattle.matcher.specs.Benches.{BestAt, Right}
 use Rattle.matcher.specs.States.{Present, Got}

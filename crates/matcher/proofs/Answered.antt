@@ -8,13 +8,14 @@ use Rattle.rules.specs.Languages.{Sight, In, in_first, in_second, part}
 use Rattle.rules.proofs.Parts.{empty_parts, choice_parts, sequence_split, sequence_join, star_split, star_join, star_parts}
 use Rattle.matcher.specs.declared.frame.Frame.{Frame}
 use Rattle.matcher.specs.declared.frame.Spot.{Spot}
-use Rattle.matcher.specs.Sizes.{Stands}
+use Rattle.rules.specs.Nodes.{Stands}
 use Rattle.matcher.specs.Frames.{frame_rows, second_node, spot_cell, spot_place, Laid, On}
 use Rattle.matcher.specs.Searches.{ToldAt, BothToldAt}
 use Rattle.matcher.specs.Unpacking.{place, cell}
 use Rattle.matcher.specs.Benches.{Sound}
 use Rattle.matcher.specs.States.{Says, Reach, Told, BothTold, NoSplit, NoRound}
-use Rattle.matcher.proofs.Nodes.{kind_at, stands_head, choice_first, choice_second, sequence_first, sequence_second, star_part}
+use Rattle.rules.proofs.Nodes.{stands_head, choice_first, choice_second, sequence_first, sequence_second, star_part}
+use Rattle.matcher.proofs.Nodes.{kind_at}
 use Rattle.matcher.proofs.Framed.{framed}
 use Rattle.matcher.proofs.Places.{place_in}
 use Rattle.matcher.proofs.ByKind.{by_empty, by_leaf, by_choice, by_sequence, by_star}

@@ -4,7 +4,7 @@ use Rattle.rules.specs.declared.row.Row.{Row}
 use Rattle.rules.specs.Trees.{Tree, choice, sequence, size, Of, Bound, here}
 use Rattle.rules.specs.Trees as Trees
 use Rattle.rules.proofs.RowFacts.{length_rows, rows_from}
-use Rattle.matcher.specs.Sizes.{Stands}
+use Rattle.rules.specs.Nodes.{Stands}
 
 moved : (t s : Tree) (a b : ℕ) → a ≡ b → Bound t a s → Bound t b s
 moved t s a b e h = let P : ℕ → Type 0 = λ k. Bound t k s in subst P e h

@@ -5,7 +5,7 @@ use Rattle.std.proofs.lemmas.List.{get_or-set_same, get_or-set_other}
 use Rattle.rules.specs.declared.row.Row.{Row}
 use Rattle.rules.specs.Trees.{Tree}
 use Rattle.rules.specs.Languages.{Sight, In, part}
-use Rattle.matcher.specs.Sizes.{Stands}
+use Rattle.rules.specs.Nodes.{Stands}
 use Rattle.matcher.specs.Unpacking.{place, cell}
 use Rattle.matcher.specs.Benches.{Room, Sound, Marked, Grown}
 use Rattle.matcher.proofs.Places.{Same, same_cell}

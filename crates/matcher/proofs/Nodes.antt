@@ -1,70 +1,16 @@
 -- Where the parts of a node stand among the rows.
-use Rattle.std.proofs.Common.{◌≡◌, ℕ, zero, suc, ◌+◌, ◌-◌, ◌<◌, ◌≤◌, List, [], ◌∷◌, ◌++◌, length, get_or, drop, set, replicate, sym, refl, ap, ◌∙◌, subst, append_assoc, append-nil, add-zero, add_assoc, arith, length-append, length-drop, drop_at}
+use Rattle.std.proofs.Common.{◌≡◌, ℕ, zero, suc, ◌+◌, ◌-◌, ◌<◌, ◌≤◌, List, length, get_or, set, replicate, refl, ap, ◌∙◌, subst, arith}
 use native.Mathlib.Decide.{dec_lt, ℕ_discrete}
-use Rattle.std.proofs.lemmas.List.{drop-drop, get_or-drop, get_or-set_same, get_or-set_other, length-set, length-replicate}
+use Rattle.std.proofs.lemmas.List.{get_or-set_same, get_or-set_other, length-set, length-replicate}
 use Rattle.rules.specs.declared.row.Row.{Row}
-use Rattle.rules.specs.Trees.{Tree, empty, leaf, choice, sequence, star, row, rows, size}
+use Rattle.rules.specs.Trees.{Tree, empty, leaf, choice, sequence, star, row, size}
 use Rattle.rules.specs.RuleRows.{Ruled}
 use Rattle.rules.proofs.RowFacts.{length_rows}
-use Rattle.matcher.specs.Sizes.{Stands, SizedFrom, Sized, PairRoom}
-
-pub size_positive : (t : Tree) → 0 < size t
-size_positive empty = omega arith
-size_positive (leaf lo hi) = omega arith
-size_positive (choice p q) = omega arith
-size_positive (sequence p q) = omega arith
-size_positive (star p) = omega arith
-
-pub behind : (rs : List Row) (m k : ℕ) (u v : List Row) → drop m rs ≡ u ++ v → length u ≡ k → drop (m + k) rs ≡ v
-behind rs m k u v e h = sym (drop-drop k m rs) ∙ (ap (drop k) e ∙ drop_at u v k h)
-
-pub stands_within : (rs : List Row) (m : ℕ) (s : Tree) → Stands rs m s → m + size s ≤ length rs
-stands_within rs m s h =
-    let a : length (drop m rs) ≡ length (rows s) + length h.rest = ap length h.is ∙ length-append (rows s) h.rest in
-    omega (arith, length-drop m rs, length_rows s, size_positive s)
-
-pub first_part : (rs : List Row) (m : ℕ) (x : Row) (p : Tree) (more : List Row) → drop m rs ≡ x ∷ (rows p ++ more) → Stands rs (m + 1) p
-first_part rs m x p more e = record { rest = more; is = behind rs m 1 (x ∷ []) (rows p ++ more) e refl }
-
-pub second_part : (rs : List Row) (m : ℕ) (x : Row) (p q : Tree) (more : List Row) → drop m rs ≡ x ∷ ((rows p ++ rows q) ++ more) → Stands rs (m + 1 + size p) q
-second_part rs m x p q more e =
-    record {
-      rest = more;
-      is =
-          rw (add_assoc m 1 (size p)) (behind rs m (1 + size p) (x ∷ rows p) (rows q ++ more) (e ∙ ap (λ (r : List Row). x ∷ r) (append_assoc (rows p) (rows q) more)) (omega (arith, length_rows p)));
-    }
-
-pub choice_first : (rs : List Row) (m : ℕ) (p q : Tree) → Stands rs m (choice p q) → Stands rs (m + 1) p
-choice_first rs m p q h = first_part rs m (row 2 0 0) p (rows q ++ h.rest) (h.is ∙ ap (λ (r : List Row). row 2 0 0 ∷ r) (append_assoc (rows p) (rows q) h.rest))
-
-pub choice_second : (rs : List Row) (m : ℕ) (p q : Tree) → Stands rs m (choice p q) → Stands rs (m + 1 + size p) q
-choice_second rs m p q h = second_part rs m (row 2 0 0) p q h.rest h.is
-
-pub sequence_first : (rs : List Row) (m : ℕ) (p q : Tree) → Stands rs m (sequence p q) → Stands rs (m + 1) p
-sequence_first rs m p q h = first_part rs m (row 3 0 0) p (rows q ++ h.rest) (h.is ∙ ap (λ (r : List Row). row 3 0 0 ∷ r) (append_assoc (rows p) (rows q) h.rest))
-
-pub sequence_second : (rs : List Row) (m : ℕ) (p q : Tree) → Stands rs m (sequence p q) → Stands rs (m + 1 + size p) q
-sequence_second rs m p q h = second_part rs m (row 3 0 0) p q h.rest h.is
-
-pub star_part : (rs : List Row) (m : ℕ) (p : Tree) → Stands rs m (star p) → Stands rs (m + 1) p
-star_part rs m p h = first_part rs m (row 4 0 0) p h.rest h.is
-
-abbrev pub head : Tree → Row
-head empty = row 0 0 0
-head (leaf lo hi) = row 1 lo hi
-head (choice p q) = row 2 0 0
-head (sequence p q) = row 3 0 0
-head (star p) = row 4 0 0
-
-pub head_of : (s : Tree) (rest : List Row) (d : Row) → get_or (rows s ++ rest) 0 d ≡ head s
-head_of empty rest d = refl
-head_of (leaf lo hi) rest d = refl
-head_of (choice p q) rest d = refl
-head_of (sequence p q) rest d = refl
-head_of (star p) rest d = refl
-
-pub stands_head : (rs : List Row) (m : ℕ) (s : Tree) → Stands rs m s → (d : Row) → get_or rs m d ≡ head s
-stands_head rs m s h d = ap (λ k. get_or rs k d) (sym (add-zero m)) ∙ (sym (get_or-drop m rs 0 d) ∙ (ap (λ (r : List Row). get_or r 0 d) h.is ∙ head_of s h.rest d))
+use Rattle.rules.specs.Kinds.{kind_number}
+use Rattle.rules.specs.Nodes.{Stands}
+use Rattle.rules.proofs.Nodes.{size_positive, stands_whole, stands_within, choice_first, choice_second, sequence_first, sequence_second, star_part, kind_of, kind_known}
+use Rattle.rules.proofs.Nodes.{kind_is as kind_at_is}
+use Rattle.matcher.specs.Sizes.{SizedFrom, Sized, PairRoom}
 
 pub record Found (rs : List Row) (m : ℕ) : Type 0 where
   pub tree : Tree
@@ -97,24 +43,20 @@ find rs (star p) b h (suc m) l = moved rs (b + 1 + m) (b + suc m) (omega arith) 
 pub found : (rs : List Row) → Ruled rs → (m : ℕ) → m < length rs → Found rs m
 found rs r m l =
     let e : length rs ≡ size r.tree = ap length r.of ∙ length_rows r.tree in
-    moved rs (0 + m) m (omega arith) (find rs r.tree 0 (record { rest = []; is = r.of ∙ sym (append-nil (rows r.tree)) }) m (omega arith))
+    moved rs (0 + m) m (omega arith) (find rs r.tree 0 (stands_whole rs r.tree r.of) m (omega arith))
 
 abbrev pub kind_at : List Row → ℕ → ℕ
 kind_at rs m = (get_or rs m (row 0 0 0)).kind
 
-pub kind_is : (rs : List Row) (m : ℕ) (s : Tree) → Stands rs m s → kind_at rs m ≡ (head s).kind
-kind_is rs m s h = ap (λ (r : Row). r.kind) (stands_head rs m s h (row 0 0 0))
-
-kind_most : (s : Tree) → (head s).kind ≤ 4
-kind_most empty = omega arith
-kind_most (leaf lo hi) = omega arith
-kind_most (choice p q) = omega arith
-kind_most (sequence p q) = omega arith
-kind_most (star p) = omega arith
+pub kind_is : (rs : List Row) (m : ℕ) (s : Tree) → Stands rs m s → kind_at rs m ≡ kind_number (kind_of s)
+kind_is rs m s h = kind_at_is rs m (row 0 0 0) s h
 
 -- a rule has no kind over 4
 pub kind_small : (rs : List Row) → Ruled rs → (m : ℕ) → m < length rs → kind_at rs m ≤ 4
-kind_small rs r m l = let f = found rs r m l in omega (arith, kind_is rs m f.tree f.stands, kind_most f.tree)
+kind_small rs r m l =
+    let f = found rs r m l in
+    let k = kind_known rs m (row 0 0 0) f.tree f.stands in
+    elim (dec_lt 4 (kind_at rs m)) [ yes u ↦ absurd (k u) | no u ↦ omega arith ]
 
 -- a node with two parts, with what the table of sizes says of them
 pub record Pair (rs : List Row) (table : List ℕ) (m : ℕ) (s : Tree) : Type 0 where

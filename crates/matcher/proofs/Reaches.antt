@@ -4,7 +4,7 @@ use Rattle.rules.specs.declared.row.Row.{Row}
 use Rattle.rules.specs.Trees.{Tree}
 use Rattle.rules.specs.Languages.{Sight, In, part}
 use Rattle.rules.proofs.Parts.{empty_part, leaf_part}
-use Rattle.matcher.specs.Sizes.{Stands}
+use Rattle.rules.specs.Nodes.{Stands}
 use Rattle.matcher.specs.States.{Reach}
 use Rattle.matcher.proofs.Nodes.{kind_at}
 use Rattle.matcher.proofs.ByKind.{by_empty, by_leaf}

@@ -10,12 +10,14 @@ use Rattle.rules.proofs.Parts.{choice_parts}
 use Rattle.policies.specs.Orders.{Order, Decided, Replaced}
 use Rattle.matcher.specs.declared.frame.Frame.{Frame}
 use Rattle.matcher.specs.declared.frame.Spot.{Spot}
-use Rattle.matcher.specs.Sizes.{Stands, Sized}
+use Rattle.rules.specs.Nodes.{Stands}
+use Rattle.matcher.specs.Sizes.{Sized}
 use Rattle.matcher.specs.Frames.{frame_rows, second_node, Laid, On}
 use Rattle.matcher.specs.Unpacking.{place, cell, unpacked}
 use Rattle.matcher.specs.Benches.{Grown, Held, Solved, Right}
 use Rattle.matcher.specs.States.{Reach, Told, BothTold, Present, Keeps, Settled, Got, BothCoded, Prepared, Ready}
-use Rattle.matcher.proofs.Nodes.{kind_at, found, choice_first, choice_second, sequence_first, sequence_second}
+use Rattle.rules.proofs.Nodes.{choice_first, choice_second, sequence_first, sequence_second}
+use Rattle.matcher.proofs.Nodes.{kind_at, found}
 use Rattle.matcher.proofs.Framed.{framed}
 use Rattle.matcher.proofs.Places.{place_in}
 use Rattle.matcher.proofs.ByKind.{by_choice}

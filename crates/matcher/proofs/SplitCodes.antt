@@ -10,13 +10,15 @@ use Rattle.rules.proofs.ReadingFacts.{ReadsCases, reads_cases, reads_ordered, re
 use Rattle.policies.specs.Orders.{Order, Decided, Replaced}
 use Rattle.matcher.specs.declared.frame.Frame.{Frame}
 use Rattle.matcher.specs.declared.frame.Spot.{Spot}
-use Rattle.matcher.specs.Sizes.{Stands, Sized}
+use Rattle.rules.specs.Nodes.{Stands}
+use Rattle.matcher.specs.Sizes.{Sized}
 use Rattle.matcher.specs.Frames.{frame_rows, second_node, On}
 use Rattle.matcher.specs.Unpacking.{cell, unpacked}
 use Rattle.matcher.specs.Benches.{Grown, AtLeast, Held}
 use Rattle.matcher.specs.States.{Reach, Keeps, Coded, BothCoded, Ready, BestBelow}
 use Rattle.matcher.proofs.Framed.{framed}
-use Rattle.matcher.proofs.Nodes.{Found, found, kind_at, sequence_first, sequence_second}
+use Rattle.rules.proofs.Nodes.{sequence_first, sequence_second}
+use Rattle.matcher.proofs.Nodes.{Found, found, kind_at}
 use Rattle.matcher.proofs.ByKind.{by_sequence}
 use Rattle.matcher.proofs.Bounds.{bound_stands, few_nodes, sequence_left, sequence_right}
 use Rattle.matcher.proofs.Lifts.{trans, same_left, same_right, lift_left, lift_right}

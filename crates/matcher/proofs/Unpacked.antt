@@ -4,9 +4,11 @@ use Rattle.std.proofs.lemmas.List.{length-set, take_at, drop_at, drop_all, nil_f
 use Rattle.rules.specs.declared.row.Row.{Row}
 use Rattle.rules.specs.Trees.{Tree, empty, leaf, choice, sequence, star, size}
 use Rattle.rules.specs.Readings.{Reading, nothing}
-use Rattle.matcher.specs.Sizes.{Stands, Sized}
+use Rattle.rules.specs.Nodes.{Stands}
+use Rattle.matcher.specs.Sizes.{Sized}
 use Rattle.matcher.specs.Unpacking.{unpacked, first_share, second_share, code_at}
-use Rattle.matcher.proofs.Nodes.{kind_at, kind_is, choice_first, choice_second, sequence_first, sequence_second, star_part}
+use Rattle.rules.proofs.Nodes.{choice_first, choice_second, sequence_first, sequence_second, star_part}
+use Rattle.matcher.proofs.Nodes.{kind_at, kind_is}
 use borrow.Rule.Slice.PartMut.{put_mid}
 
 module _ {X : Type 0} (xs : List X) (x : X) (ys zs : List X) (a b : ℕ) (long : length xs ≡ 1 + a + b) where

@@ -9,12 +9,13 @@ use Rattle.rules.proofs.Parts.{part_whole}
 use Rattle.rules.proofs.RowFacts.{length_rows}
 use Rattle.policies.specs.Orders.{Order, Best}
 use Rattle.matcher.specs.declared.frame.Frame.{Frame}
-use Rattle.matcher.specs.Sizes.{Stands, Sized}
+use Rattle.rules.specs.Nodes.{Stands}
+use Rattle.matcher.specs.Sizes.{Sized}
 use Rattle.matcher.specs.Frames.{frame_rows, Blank, On}
 use Rattle.matcher.specs.Unpacking.{cell, unpacked}
 use Rattle.matcher.specs.Benches.{AtLeast, BestAt, Right}
 use Rattle.matcher.specs.States.{Told, Settled}
-use Rattle.matcher.proofs.Nodes.{stands_within, size_positive}
+use Rattle.rules.proofs.Nodes.{stands_within, size_positive}
 use Rattle.matcher.proofs.Framed.{framed}
 use Rattle.matcher.proofs.Bounds.{bound_stands}
 

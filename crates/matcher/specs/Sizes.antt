@@ -1,12 +1,8 @@
--- Where the trees of a rule's nodes stand among its rows, and the table of their sizes. Assumes nothing.
-use Rattle.std.specs.Prelude.{◌≡◌, ℕ, ◌+◌, ◌<◌, ◌≤◌, List, ◌++◌, length, drop, slice_index}
+-- The table of the sizes of a rule's nodes. Assumes nothing.
+use Rattle.std.specs.Prelude.{◌≡◌, ℕ, ◌+◌, ◌<◌, ◌≤◌, List, length, slice_index}
 use Rattle.rules.specs.declared.row.Row.{Row}
-use Rattle.rules.specs.Trees.{Tree, rows, size}
-
--- the rows of s begin at row m
-pub record Stands (rs : List Row) (m : ℕ) (s : Tree) : Type 0 where
-  pub rest : List Row
-  pub is : drop m rs ≡ rows s ++ rest
+use Rattle.rules.specs.Nodes.{Stands}
+use Rattle.rules.specs.Trees.{Tree, size}
 
 -- the table holds the size of each node's tree from row b on
 pub record SizedFrom (rs : List Row) (b : ℕ) (table : List ℕ) : Type 0 where

@@ -5,7 +5,7 @@ use Rattle.rules.specs.Trees.{Tree, sequence, star, rows, Of, Bound}
 use Rattle.rules.specs.Languages.{Sight, In, part}
 use Rattle.rules.specs.Readings.{Reading, Reads, stretch}
 use Rattle.policies.specs.Orders.{Order}
-use Rattle.matcher.specs.Sizes.{Stands}
+use Rattle.rules.specs.Nodes.{Stands}
 use Rattle.matcher.specs.Unpacking.{cell, unpacked}
 use Rattle.matcher.specs.Benches.{Sound, Marked, Grown, AtLeast, Held, Right}
 

@@ -2,7 +2,7 @@ ghost use Rattle.std.specs.Prelude.{◌≡◌, ◌<◌, ◌≤◌, length, slice
 ghost use Rattle.rules.specs.Kinds.{kind_number};
 ghost use Rattle.rules.specs.Trees.{Tree};
 ghost use Rattle.matcher.specs.Frames.{frame_rows, Laid};
-ghost use Rattle.matcher.specs.Sizes.{Stands};
+ghost use Rattle.rules.specs.Nodes.{Stands};
 ghost use Rattle.matcher.specs.Unpacking.{Within, cut as Cut, first_share, second_share, code_at, unpacked};
 
 use crate::frame::{Frame, Spot};

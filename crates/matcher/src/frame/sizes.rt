@@ -3,7 +3,8 @@ ghost use Rattle.rules.specs.Kinds.{kind_number};
 ghost use Rattle.rules.specs.Trees.{Tree, row as Line, size};
 ghost use Rattle.rules.specs.RuleRows.{Ruled, rule_rows};
 ghost use Rattle.matcher.specs.Frames.{frame_rows, frame_kind, second_node};
-ghost use Rattle.matcher.specs.Sizes.{Stands, Sized, SizedFrom, Paired, PairRoom};
+ghost use Rattle.rules.specs.Nodes.{Stands};
+ghost use Rattle.matcher.specs.Sizes.{Sized, SizedFrom, Paired, PairRoom};
 
 use super::Frame;
 use rules::{Kind, Row, Rule};
