@@ -2,8 +2,7 @@ use crate::first_longest::FirstLongest;
 use crate::opposite::Opposite;
 use crate::policy::Policy;
 use crate::posix::Posix;
-use rules::Row;
-use rules::row::{CHOICE, EMPTY, LEAF, SEQUENCE, STAR};
+use rules::{Kind, Row};
 use std::cmp::Ordering;
 use std::process::Abort;
 
@@ -30,15 +29,15 @@ impl Pair<'_> {
 // The rule (a|ab)(b|) on ab, read by ab and then nothing, and by a and then b.
 fn ranks<P: Policy>(rt: &impl Abort, policy: &P, want: Ordering) {
     let rows = [
-        Row::inner(SEQUENCE),
-        Row::inner(CHOICE),
-        Row::new(LEAF, 97, 97),
-        Row::inner(SEQUENCE),
-        Row::new(LEAF, 97, 97),
-        Row::new(LEAF, 98, 98),
-        Row::inner(CHOICE),
-        Row::new(LEAF, 98, 98),
-        Row::inner(EMPTY),
+        Row::from(Kind::Sequence),
+        Row::from(Kind::Choice),
+        Row::leaf(97, 97),
+        Row::from(Kind::Sequence),
+        Row::leaf(97, 97),
+        Row::leaf(98, 98),
+        Row::from(Kind::Choice),
+        Row::leaf(98, 98),
+        Row::from(Kind::Empty),
     ];
     let long = [
         Some((0, 2)),
@@ -74,13 +73,13 @@ fn ranks<P: Policy>(rt: &impl Abort, policy: &P, want: Ordering) {
 // The rule b(a*a*) on baa: its second part, where the first star takes both letters or one.
 fn ranks_stars<P: Policy>(rt: &impl Abort, policy: &P, want: Ordering) {
     let rows = [
-        Row::inner(SEQUENCE),
-        Row::new(LEAF, 98, 98),
-        Row::inner(SEQUENCE),
-        Row::inner(STAR),
-        Row::new(LEAF, 97, 97),
-        Row::inner(STAR),
-        Row::new(LEAF, 97, 97),
+        Row::from(Kind::Sequence),
+        Row::leaf(98, 98),
+        Row::from(Kind::Sequence),
+        Row::from(Kind::Star),
+        Row::leaf(97, 97),
+        Row::from(Kind::Star),
+        Row::leaf(97, 97),
     ];
     let both = [Some((1, 3)), Some((1, 3)), None, Some((3, 3)), None];
     let one = [Some((1, 3)), Some((1, 2)), None, Some((2, 3)), None];

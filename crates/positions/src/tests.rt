@@ -1,22 +1,21 @@
 use crate::Positions;
 use crate::leaf_set::member;
 use rules::alphabet::Bytes;
-use rules::row::{CHOICE, EMPTY, LEAF, SEQUENCE, STAR};
-use rules::{Row, Rule};
+use rules::{Kind, Row, Rule};
 use std::test::Fail;
 
 // (a|ab)(b|). Tests of other crates write it too, since the test items of one crate are not seen from another.
 fn two_choices() -> [Row; 9] {
     [
-        Row::inner(SEQUENCE),
-        Row::inner(CHOICE),
-        Row::new(LEAF, 97, 97),
-        Row::inner(SEQUENCE),
-        Row::new(LEAF, 97, 97),
-        Row::new(LEAF, 98, 98),
-        Row::inner(CHOICE),
-        Row::new(LEAF, 98, 98),
-        Row::inner(EMPTY),
+        Row::from(Kind::Sequence),
+        Row::from(Kind::Choice),
+        Row::leaf(97, 97),
+        Row::from(Kind::Sequence),
+        Row::leaf(97, 97),
+        Row::leaf(98, 98),
+        Row::from(Kind::Choice),
+        Row::leaf(98, 98),
+        Row::from(Kind::Empty),
     ]
 }
 
@@ -56,7 +55,7 @@ fn names_of_the_worked_example(rt: HostRuntime) -> Result<(), Fail> {
 
 #[test]
 fn star(rt: HostRuntime) -> Result<(), Fail> {
-    let sets = sets_of(&[Row::inner(STAR), Row::new(LEAF, 97, 97)])?;
+    let sets = sets_of(&[Row::from(Kind::Star), Row::leaf(97, 97)])?;
     assert!(rt; sets.nullable);
     assert_eq!(rt; sets.first, 1);
     assert_eq!(rt; sets.last, 1);

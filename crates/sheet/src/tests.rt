@@ -1,23 +1,22 @@
 use crate::sheet::{LockedSheet, OpenSheet};
 use policies::{FirstLongest, Policy, Posix};
 use rules::alphabet::Bytes;
-use rules::row::{CHOICE, EMPTY, LEAF, SEQUENCE};
-use rules::{Denial, Row};
+use rules::{Denial, Kind, Row};
 use std::process::Abort;
 use std::test::Fail;
 
 // (a|ab)(b|)
 fn two_choices() -> [Row; 9] {
     [
-        Row::inner(SEQUENCE),
-        Row::inner(CHOICE),
-        Row::new(LEAF, 97, 97),
-        Row::inner(SEQUENCE),
-        Row::new(LEAF, 97, 97),
-        Row::new(LEAF, 98, 98),
-        Row::inner(CHOICE),
-        Row::new(LEAF, 98, 98),
-        Row::inner(EMPTY),
+        Row::from(Kind::Sequence),
+        Row::from(Kind::Choice),
+        Row::leaf(97, 97),
+        Row::from(Kind::Sequence),
+        Row::leaf(97, 97),
+        Row::leaf(98, 98),
+        Row::from(Kind::Choice),
+        Row::leaf(98, 98),
+        Row::from(Kind::Empty),
     ]
 }
 
@@ -38,7 +37,7 @@ fn history_leaves_no_trace<P: Policy + Copy>(
     policy: P,
 ) -> Result<(), Fail> {
     let mut sheet = OpenSheet::open(rt.alloc(), Bytes, policy)?;
-    assert_eq!(rt; sheet.add(&[Row::new(LEAF, 98, 98)])?, 0);
+    assert_eq!(rt; sheet.add(&[Row::leaf(98, 98)])?, 0);
     let mut sheet = sheet.lock().unlock();
     sheet.drop(0)?;
     assert_eq!(rt; sheet.add(&two_choices())?, 0);
