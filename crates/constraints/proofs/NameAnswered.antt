@@ -12,7 +12,8 @@ use Rattle.sheet.proofs.SpansFacts.{seen_met, fit_met, bench_first, name_fits}
 use Rattle.constraints.specs.Printed.{name_said}
 use Rattle.constraints.proofs.Said.{reading_said}
 use Rattle.constraints.specs.NameLines.{SaysAnswer}
-use Rattle.constraints.specs.Served.{Appends, folded_name, NameAnswered, name_too_long, name_not_read, bench_too_short, name_read}
+use Rattle.session.specs.Served.{Appends}
+use Rattle.constraints.specs.Served.{folded_name, NameAnswered, name_too_long, name_not_read, bench_too_short, name_read}
 
 long : (name : List ℕ) → length (folded_name name) ≡ length name
 long name = seen_long _ name

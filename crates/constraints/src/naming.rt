@@ -3,17 +3,16 @@ ghost use Rattle.policies.specs.Named.{named_above};
 ghost use Rattle.sheet.specs.Questions.{Lowest};
 ghost use Rattle.sheet.specs.Sheets.{locked};
 ghost use Rattle.constraints.specs.NameLines.{SaysAnswer};
-ghost use Rattle.constraints.specs.Served.{Appends, folded_name};
+ghost use Rattle.session.specs.Served.{Appends};
+ghost use Rattle.constraints.specs.Served.{folded_name};
 
+use crate::answers::FileSheet;
 use crate::printing::{print_reading, print_refusal};
-use policies::NamedPolicy;
-use rules::alphabet::{Bytes, Folding};
-use sheet::LockedSheet;
 use std::alloc::AllocError;
 
 // Prints the reading of the name by the rule at the lowest place that reads it, or that the bench is too short.
 fn serve_reading(
-    sheet: &LockedSheet<Folding<Bytes>, NamedPolicy>,
+    sheet: &FileSheet,
     place: usize,
     name: &[u8],
     bench: &mut [u8],
@@ -32,7 +31,7 @@ fn serve_reading(
 
 // Prints the place and the reading of the name, or why there is none.
 pub(crate) fn serve_name(
-    sheet: &LockedSheet<Folding<Bytes>, NamedPolicy>,
+    sheet: &FileSheet,
     name: &[u8],
     bench: &mut [u8],
     out: &mut Vec<u8>,
