@@ -36,14 +36,6 @@ not_governed above rules bench name d h = go (ltb 120 (length (folded_name name)
     go true e g = by_number above rules bench name (err_same g) (name_too_long (let l = ltb-true 120 _ e in omega (arith, long name)))
     go false e g = by_number above rules bench name g.0 (name_not_read (let l = ltb-false 120 _ e in omega (arith, long name)) g.1)
 
--- a govern that is served
-pub governed : (rules : Rules) (name : List ℕ) (place : ℕ) → GovernAnswer rules (folded_name name) (Ok place) → (length name ≤ 120) × Lowest rules (folded_name name) place
-governed rules name place h = go (ltb 120 (length (folded_name name))) refl h
-  where
-    go : (b : Bool) → ltb 120 (length (folded_name name)) ≡ b → Governed (cond b (Some 8) None) rules (folded_name name) (Ok place) → (length name ≤ 120) × Lowest rules (folded_name name) place
-    go true e g = absurd (ok_or_err g)
-    go false e g = (let l = ltb-false 120 _ e in omega (arith, long name), g)
-
 -- the line of a denial
 pub says_denial : {E : Type 0} (above : Order) (rules : Rules) (bench n : ℕ) (name old new : List ℕ) (r : Result (Unit {0}) E)
     → NameAnswered above rules bench name (Err n) → MatchResult r (λ _. new ≡ old ++ name_said (Err n)) (λ _. new ≡ old)
