@@ -2,7 +2,7 @@ ghost use Rattle.std.specs.Prelude.{◌≡◌, ℕ, [], length, take, IfOk, Matc
 ghost use Rattle.sheet.specs.Sheets.{locked};
 ghost use Rattle.session.specs.Kinds.{rule_line};
 ghost use Rattle.session.specs.Lines.{lines};
-ghost use Rattle.session.specs.Served.{Appends};
+ghost use Rattle.session.specs.Served.{Appends, PrintsBy};
 ghost use Rattle.constraints.specs.Served.{Answers, FileSession};
 ghost use Rattle.session.specs.declared.line.State.TheVariants.{Serving};
 
@@ -43,6 +43,7 @@ fn serve_rule(sheet: FileSheet, text: &[u8], out: &mut Vec<u8>) -> Result<FileSh
 }
 
 // Serves one line: the state and the sheet after it, and what it prints behind what was printed before.
+// The sheet is moved, and bench and output are borrowed: a struct of the three would be taken apart in each arm.
 pub fn serve_line(
     state: State,
     sheet: FileSheet,
@@ -50,7 +51,7 @@ pub fn serve_line(
     bench: &mut [u8],
     out: &mut Vec<u8>,
 ) -> Result<(State, FileSheet), AllocError>
-    ensures { MatchResult result (λ s. Appends (Answers (length bench.old) state sheet.policy (locked sheet) line.now s.0 s.1.policy (locked s.1)) out.old.items out.new.items) (λ _. out.new.items ≡ out.old.items) }
+    ensures { PrintsBy result (λ s. Answers (length bench.old) state sheet.policy (locked sheet) line.now s.0 s.1.policy (locked s.1)) out.old.items out.new.items }
 {
     match (state, kind_of(line)) {
         (State::Awaiting, Line::Policy(policy)) => {

@@ -1,9 +1,9 @@
-ghost use Rattle.std.specs.Prelude.{◌≡◌, ◌≤◌, length, MatchResult};
+ghost use Rattle.std.specs.Prelude.{◌≤◌, length};
 ghost use Rattle.policies.specs.Named.{named_above};
 ghost use Rattle.sheet.specs.Questions.{Lowest};
 ghost use Rattle.sheet.specs.Sheets.{locked};
 ghost use Rattle.constraints.specs.NameLines.{SaysAnswer};
-ghost use Rattle.session.specs.Served.{Appends};
+ghost use Rattle.session.specs.Served.{PrintsBy};
 ghost use Rattle.constraints.specs.Served.{folded_name};
 
 use crate::answers::FileSheet;
@@ -11,6 +11,7 @@ use crate::printing::{print_reading, print_refusal};
 use std::alloc::AllocError;
 
 // Prints the reading of the name by the rule at the lowest place that reads it, or that the bench is too short.
+// Sheet, bench and output are three borrows that one caller hands on: a struct of them would be no plainer.
 fn serve_reading(
     sheet: &FileSheet,
     place: usize,
@@ -20,7 +21,7 @@ fn serve_reading(
 ) -> Result<(), AllocError>
     requires short { length name.now ≤ 120 }
     requires lowest { Lowest (locked sheet.now) (folded_name name.now) place }
-    ensures { MatchResult result (λ _. Appends (SaysAnswer (named_above sheet.now.policy) (locked sheet.now) (length bench.old) name.now) out.old.items out.new.items) (λ _. out.new.items ≡ out.old.items) }
+    ensures { PrintsBy result (λ _. SaysAnswer (named_above sheet.now.policy) (locked sheet.now) (length bench.old) name.now) out.old.items out.new.items }
 {
     let mut report = [None; 64];
     match sheet.spans(place, name, bench, &mut report) {
@@ -36,7 +37,7 @@ pub(crate) fn serve_name(
     bench: &mut [u8],
     out: &mut Vec<u8>,
 ) -> Result<(), AllocError>
-    ensures { MatchResult result (λ _. Appends (SaysAnswer (named_above sheet.now.policy) (locked sheet.now) (length bench.old) name.now) out.old.items out.new.items) (λ _. out.new.items ≡ out.old.items) }
+    ensures { PrintsBy result (λ _. SaysAnswer (named_above sheet.now.policy) (locked sheet.now) (length bench.old) name.now) out.old.items out.new.items }
 {
     match sheet.govern(name) {
         Ok(place) => serve_reading(sheet, place, name, bench, out),

@@ -1,5 +1,6 @@
-ghost use Rattle.std.specs.Prelude.{◌≡◌, ◌++◌, IfOk, Some, Ok, Err, decimal, MatchResult, OnOk};
+ghost use Rattle.std.specs.Prelude.{◌≡◌, ◌++◌, IfOk, Some, Ok, Err, decimal, OnOk};
 ghost use Rattle.rules.specs.Denials.{number};
+ghost use Rattle.session.specs.Served.{Prints};
 ghost use Rattle.constraints.specs.Printed.{entry_said, name_said};
 
 use rules::Denial;
@@ -20,7 +21,7 @@ fn push_number(line: &mut Vec<u8>, n: usize) -> Result<(), AllocError>
 
 // Prints `-` where no rule reads the name, else `! ` and the number.
 pub(crate) fn print_refusal(denial: Denial, out: &mut Vec<u8>) -> Result<(), AllocError>
-    ensures { MatchResult result (λ _. out.new.items ≡ out.old.items ++ name_said (Err (number denial))) (λ _. out.new.items ≡ out.old.items) }
+    ensures { Prints result (name_said (Err (number denial))) out.old.items out.new.items }
 {
     match denial {
         Denial::NotRead => out.extend_from_slice(b"-\n"),
@@ -65,7 +66,7 @@ pub(crate) fn print_reading(
     reading: &[Option<(usize, usize)>],
     out: &mut Vec<u8>,
 ) -> Result<(), AllocError>
-    ensures { MatchResult result (λ _. out.new.items ≡ out.old.items ++ name_said (Ok (place, reading.now))) (λ _. out.new.items ≡ out.old.items) }
+    ensures { Prints result (name_said (Ok (place, reading.now))) out.old.items out.new.items }
 {
     let line = reading_line(*out.allocator(), place, reading)?;
     out.extend_from_slice(&line)

@@ -1,6 +1,6 @@
-ghost use Rattle.std.specs.Prelude.{◌≡◌, take, IfOk, MatchResult};
+ghost use Rattle.std.specs.Prelude.{take, IfOk};
 ghost use Rattle.session.specs.Lines.{lines};
-ghost use Rattle.session.specs.Served.{Appends, RulePrints, Answers, Session, start};
+ghost use Rattle.session.specs.Served.{PrintsBy, RulePrints, Answers, Session, start};
 
 use crate::line::{Line, State, kind_of};
 pub use crate::lines::LIMIT;
@@ -13,7 +13,7 @@ use text::read;
 
 // Prints nothing if the text is read, or the number of its denial.
 fn serve_rule(text: &[u8], out: &mut Vec<u8>) -> Result<(), AllocError>
-    ensures { MatchResult result (λ _. Appends (RulePrints text.now) out.old.items out.new.items) (λ _. out.new.items ≡ out.old.items) }
+    ensures { PrintsBy result (λ _. RulePrints text.now) out.old.items out.new.items }
 {
     let mut rows = [Row::inner(EMPTY); 64];
     match read(text, &mut rows) {
@@ -24,7 +24,7 @@ fn serve_rule(text: &[u8], out: &mut Vec<u8>) -> Result<(), AllocError>
 
 // Serves one line: the state after it, and what it prints behind what was printed before.
 pub fn serve_line(state: State, line: &[u8], out: &mut Vec<u8>) -> Result<State, AllocError>
-    ensures { MatchResult result (λ s. Appends (Answers state line.now s) out.old.items out.new.items) (λ _. out.new.items ≡ out.old.items) }
+    ensures { PrintsBy result (λ s. Answers state line.now s) out.old.items out.new.items }
 {
     match (state, kind_of(line)) {
         (State::Awaiting, Line::Policy(_)) => Ok(State::Serving),

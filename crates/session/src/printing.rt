@@ -1,6 +1,6 @@
-ghost use Rattle.std.specs.Prelude.{◌≡◌, ◌++◌, IfOk, string_bytes, MatchResult};
+ghost use Rattle.std.specs.Prelude.{◌≡◌, IfOk, string_bytes};
 ghost use Rattle.rules.specs.Denials.{number};
-ghost use Rattle.session.specs.Served.{asked, denied};
+ghost use Rattle.session.specs.Served.{Prints, asked, denied};
 
 use rules::Denial;
 use std::alloc::{AllocError, Global};
@@ -15,7 +15,7 @@ fn denial_line(heap: Global, denial: Denial) -> Result<String, AllocError>
 
 // Prints `! ` and the number.
 pub fn print_denial(denial: Denial, out: &mut Vec<u8>) -> Result<(), AllocError>
-    ensures { MatchResult result (λ _. out.new.items ≡ out.old.items ++ denied (number denial)) (λ _. out.new.items ≡ out.old.items) }
+    ensures { Prints result (denied (number denial)) out.old.items out.new.items }
 {
     let line = denial_line(*out.allocator(), denial)?;
     out.extend_from_slice(line.as_bytes())
@@ -23,7 +23,7 @@ pub fn print_denial(denial: Denial, out: &mut Vec<u8>) -> Result<(), AllocError>
 
 // Prints `?`.
 pub fn print_question(out: &mut Vec<u8>) -> Result<(), AllocError>
-    ensures { MatchResult result (λ _. out.new.items ≡ out.old.items ++ asked) (λ _. out.new.items ≡ out.old.items) }
+    ensures { Prints result asked out.old.items out.new.items }
 {
     out.extend_from_slice(b"?\n")
 }

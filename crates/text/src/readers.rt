@@ -8,12 +8,14 @@ use rules::{Denial, Row};
 // How far a text is read, and what it wrote: the bytes before `at`, and `count` rows, of which the first 64 are kept.
 #[derive(Drop)]
 pub(crate) struct Reader<'a> {
-    pub(crate) text: &'a [u8],
+    text: &'a [u8],
     pub(crate) at: usize,
     pub(crate) count: usize,
-    pub(crate) rows: [Row; 64],
+    rows: [Row; 64],
     ghost short: { length text.now ≤ 200 },
     ghost within: { at ≤ length text.now },
+
+    // Each byte brings two rows at most, and the end of a text one more.
     ghost few: { count ≤ 2 * at + 1 },
 }
 
