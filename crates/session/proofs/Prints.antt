@@ -1,5 +1,5 @@
 -- What is appended to the output, and which lines are of no kind that is served.
-use Rattle.std.proofs.Common.{◌≡◌, ℕ, List, [], ◌∷◌, ◌++◌, inl, inr, Ok, Err, Result, Bor, sym, subst, append-nil, arith, MatchResult}
+use Rattle.std.proofs.Common.{◌≡◌, ℕ, List, [], ◌∷◌, ◌++◌, inl, inr, Ok, Err, Result, Bor, sym, subst, append-nil, arith}
 use Rattle.policies.specs.declared.named.NamedPolicy.{NamedPolicy}
 use Rattle.policies.specs.declared.named.NamedPolicy.TheVariants.{Posix, FirstLongest}
 use Rattle.session.specs.declared.line.Line.{Line}
@@ -7,7 +7,7 @@ use Rattle.session.specs.declared.line.Line.TheVariants.{Policy, Rule, Name, Oth
 use Rattle.session.specs.declared.line.State.{State}
 use Rattle.session.specs.declared.line.State.TheVariants.{Awaiting, Serving}
 use Rattle.session.specs.Kinds.{Is, NamesPolicy, Names, NamesNone, rule_line}
-use Rattle.session.specs.Served.{Appends, asked, RulePrints, Answers, policy_comes, policy_awaited, rule_comes, not_served}
+use Rattle.session.specs.Served.{Appends, Prints, PrintsBy, asked, RulePrints, Answers, policy_comes, policy_awaited, rule_comes, not_served}
 use Rattle.session.proofs.Shapes.{posix_is, first_is, two_from}
 
 -- nothing is appended
@@ -15,7 +15,7 @@ pub silent : (P : List ℕ → Type 0) (out : List ℕ) → P [] → Appends P o
 silent P out h = record { printed = []; allowed = h; appended = sym (append-nil out) }
 
 -- all is printed, or nothing for want of memory
-pub all_printed : {E : Type 0} (r : Result (Unit {0}) E) (P : List ℕ → Type 0) (old more new : List ℕ) → P more → MatchResult r (λ _. new ≡ old ++ more) (λ _. new ≡ old) → MatchResult r (λ _. Appends P old new) (λ _. new ≡ old)
+pub all_printed : {E : Type 0} (r : Result (Unit {0}) E) (P : List ℕ → Type 0) (old more new : List ℕ) → P more → Prints r more old new → PrintsBy r (λ _. P) old new
 all_printed (Ok x) P old more new h e = record { printed = more; allowed = h; appended = e }
 all_printed (Err y) P old more new h e = e
 
