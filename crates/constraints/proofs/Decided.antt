@@ -17,8 +17,8 @@ use Rattle.policies.proofs.PosixOrder.{posix_prefers}
 use Rattle.policies.proofs.FirstOrder.{first_prefers}
 use Rattle.sheet.specs.Changes.{Rules, add_answer, added}
 use Rattle.sheet.specs.Questions.{at, BestBy, Lowest, needed}
-use Rattle.constraints.specs.declared.line.State.{State}
-use Rattle.constraints.specs.Kinds.{Names}
+use Rattle.session.specs.declared.line.State.{State}
+use Rattle.session.specs.Kinds.{Names}
 use Rattle.constraints.specs.Printed.{rule_said, name_said}
 use Rattle.constraints.specs.Served.{folded_name, TextAdded, text_denied, text_read, NameAnswered, name_too_long, name_not_read, bench_too_short, name_read, Answers, policy_comes, policy_awaited, rule_comes, name_comes, not_served, Session, session_ends, session_goes}
 use Rattle.constraints.specs.Theorems.{OneSession}

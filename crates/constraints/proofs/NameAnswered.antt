@@ -1,5 +1,5 @@
 -- What govern and spans answer to a name, put together.
-use Rattle.std.proofs.Common.{◌≡◌, ℕ, ◌<◌, ◌≤◌, Bool, true, false, cond, ltb, ◌⊎◌, List, [], ◌∷◌, ◌++◌, length, replicate, Some, None, Ok, Err, decimal, Option, Result, sym, refl, ap, subst, inl, inr, ⊎_elim, arith, ltb-false, ltb-true, lt-ltb, MatchResult}
+use Rattle.std.proofs.Common.{◌≡◌, ℕ, ◌<◌, ◌≤◌, Bool, true, false, cond, ltb, ◌⊎◌, List, [], ◌∷◌, ◌++◌, length, replicate, Some, None, Ok, Err, decimal, Option, Result, sym, refl, ap, subst, inl, inr, ⊎_elim, arith, ltb-false, ltb-true, lt-ltb}
 use Rattle.std.proofs.lemmas.Bool.{cond-true}
 use Rattle.rules.specs.declared.denial.Denial.{Denial}
 use Rattle.rules.specs.Denials.{number}
@@ -12,7 +12,8 @@ use Rattle.sheet.proofs.SpansFacts.{seen_met, fit_met, bench_first, name_fits}
 use Rattle.constraints.specs.Printed.{name_said}
 use Rattle.constraints.proofs.Said.{reading_said}
 use Rattle.constraints.specs.NameLines.{SaysAnswer}
-use Rattle.constraints.specs.Served.{Appends, folded_name, NameAnswered, name_too_long, name_not_read, bench_too_short, name_read}
+use Rattle.session.specs.Served.{Prints, PrintsBy}
+use Rattle.constraints.specs.Served.{folded_name, NameAnswered, name_too_long, name_not_read, bench_too_short, name_read}
 
 long : (name : List ℕ) → length (folded_name name) ≡ length name
 long name = seen_long _ name
@@ -35,18 +36,10 @@ not_governed above rules bench name d h = go (ltb 120 (length (folded_name name)
     go true e g = by_number above rules bench name (err_same g) (name_too_long (let l = ltb-true 120 _ e in omega (arith, long name)))
     go false e g = by_number above rules bench name g.0 (name_not_read (let l = ltb-false 120 _ e in omega (arith, long name)) g.1)
 
--- a govern that is served
-pub governed : (rules : Rules) (name : List ℕ) (place : ℕ) → GovernAnswer rules (folded_name name) (Ok place) → (length name ≤ 120) × Lowest rules (folded_name name) place
-governed rules name place h = go (ltb 120 (length (folded_name name))) refl h
-  where
-    go : (b : Bool) → ltb 120 (length (folded_name name)) ≡ b → Governed (cond b (Some 8) None) rules (folded_name name) (Ok place) → (length name ≤ 120) × Lowest rules (folded_name name) place
-    go true e g = absurd (ok_or_err g)
-    go false e g = (let l = ltb-false 120 _ e in omega (arith, long name), g)
-
 -- the line of a denial
 pub says_denial : {E : Type 0} (above : Order) (rules : Rules) (bench n : ℕ) (name old new : List ℕ) (r : Result (Unit {0}) E)
-    → NameAnswered above rules bench name (Err n) → MatchResult r (λ _. new ≡ old ++ name_said (Err n)) (λ _. new ≡ old)
-    → MatchResult r (λ _. Appends (SaysAnswer above rules bench name) old new) (λ _. new ≡ old)
+    → NameAnswered above rules bench name (Err n) → Prints r (name_said (Err n)) old new
+    → PrintsBy r (λ _. SaysAnswer above rules bench name) old new
 says_denial above rules bench n name old new (Ok done) h e = record { printed = name_said (Err n); allowed = record { answer = Err n; answered = h; said = refl }; appended = e }
 says_denial above rules bench n name old new (Err y) h e = e
 
@@ -85,8 +78,8 @@ module _ (above : Order) (rules : Rules) (name : List ℕ) (place : ℕ) (bench 
       (λ s. absurd (s.1.1 low.reads)) (by_bench (Err d) h)
 
   -- the line of a reading
-  pub says_reading : {E : Type 0} (old new : List ℕ) (r : Result (Unit {0}) E) → Answer (Ok tt) → MatchResult r (λ _. new ≡ old ++ name_said (Ok (place, report'))) (λ _. new ≡ old)
-      → MatchResult r (λ _. Appends (SaysAnswer above rules (length bench) name) old new) (λ _. new ≡ old)
+  pub says_reading : {E : Type 0} (old new : List ℕ) (r : Result (Unit {0}) E) → Answer (Ok tt) → Prints r (name_said (Ok (place, report'))) old new
+      → PrintsBy r (λ _. SaysAnswer above rules (length bench) name) old new
   says_reading old new (Err y) h e = e
   says_reading old new (Ok done) h e = ⊎_elim
       (λ s. absurd (ok_or_err s.1.0))

@@ -1,5 +1,5 @@
 -- What is printed of a reading, entry by entry.
-use Rattle.std.proofs.Common.{◌≡◌, ℕ, zero, suc, ◌+◌, ◌/◌, ◌%◌, ◌^◌, ◌<◌, ◌≤◌, List, [], ◌∷◌, ◌++◌, length, get_or, take, drop, replicate, IfOk, Some, None, Ok, Err, decimal, Option, Result, sym, refl, ap, ◌∙◌, ap₂, append_assoc, append-nil, arith, take_all}
+use Rattle.std.proofs.Common.{◌≡◌, ℕ, zero, suc, ◌+◌, ◌/◌, ◌%◌, ◌^◌, ◌<◌, ◌≤◌, List, [], ◌∷◌, ◌++◌, length, get_or, take, drop, replicate, None, decimal, Option, sym, refl, ap, ◌∙◌, ap₂, append_assoc, append-nil, arith}
 use Rattle.std.proofs.lemmas.Fmt.{decimal_digit, decimal_step}
 use Rattle.rules.specs.Readings.{Reading}
 use Rattle.constraints.specs.Printed.{entry_said, entries_said}
@@ -19,12 +19,6 @@ entry_added base old new r i o h a e b =
     let z : 0 + i ≡ i = omega arith in
     b ∙ ap₂ (λ (x : List ℕ) (y : Option (ℕ × ℕ)). x ++ entry_said i y) a (sym e) ∙ append_assoc base (entries_said 0 (take i r)) (entry_said i (get_or r i None))
     ∙ ap (λ (x : List ℕ). base ++ x) (ap (λ (j : ℕ). entries_said 0 (take i r) ++ entry_said j (get_or r i None)) (sym z) ∙ sym (one_more 0 r i h) ∙ ap (λ (j : ℕ). entries_said 0 (take j r)) (sym k))
-
--- after the last entry the line is ended
-pub line_said : (base old new : List ℕ) (r : Reading) (i : ℕ) → length r ≡ i → old ≡ base ++ entries_said 0 (take i r) → new ≡ old ++ (10 ∷ []) → new ≡ base ++ (entries_said 0 r ++ (10 ∷ []))
-line_said base old new r i h a b =
-    let t : take i r ≡ r = take_all i r (omega arith) in
-    b ∙ ap (λ (x : List ℕ). x ++ (10 ∷ [])) (a ∙ ap (λ (x : Reading). base ++ entries_said 0 x) t) ∙ append_assoc base (entries_said 0 r) (10 ∷ [])
 
 -- entries with nothing print nothing
 nothing_said : (n m k : ℕ) → entries_said n (drop m (replicate k None)) ≡ []
@@ -48,12 +42,3 @@ digit_said old new n h e = let r : n % 10 ≡ n = omega arith in e ∙ ap (λ (k
 pub number_said : (old mid new : List ℕ) (n : ℕ) → 10 ≤ n → n < 2 ^ 64 → mid ≡ old ++ decimal (n / 10) → new ≡ mid ++ ((48 + n % 10) ∷ []) → new ≡ old ++ decimal n
 number_said old mid new n h k e f =
     f ∙ ap (λ (x : List ℕ). x ++ ((48 + n % 10) ∷ [])) e ∙ append_assoc old (decimal (n / 10)) ((48 + n % 10) ∷ []) ∙ ap (λ (x : List ℕ). old ++ x) (sym (decimal_step n h k))
-
--- a stretch, sign by sign and number by number
-pub stretch_said : {E : Type 0} (r : Result (Unit {0}) E) (old a b c d e new : List ℕ) (node start end : ℕ) → a ≡ old ++ (32 ∷ []) → b ≡ a ++ decimal node → c ≡ b ++ (58 ∷ []) → d ≡ c ++ decimal start → e ≡ d ++ (45 ∷ [])
-    → IfOk r (λ _. new ≡ e ++ decimal end) → IfOk r (λ _. new ≡ old ++ entry_said node (Some (start, end)))
-stretch_said (Err x) old a b c d e new node start end p q u v w m = tt
-stretch_said (Ok x) old a b c d e new node start end p q u v w m =
-    let all : new ≡ (((((old ++ (32 ∷ [])) ++ decimal node) ++ (58 ∷ [])) ++ decimal start) ++ (45 ∷ [])) ++ decimal end =
-    m ∙ ap (λ (x : List ℕ). x ++ decimal end) (w ∙ ap (λ (x : List ℕ). x ++ (45 ∷ [])) (v ∙ ap (λ (x : List ℕ). x ++ decimal start) (u ∙ ap (λ (x : List ℕ). x ++ (58 ∷ [])) (q ∙ ap (λ (x : List ℕ). x ++ decimal node) p)))) in
-    all ∙ simp append_assoc

@@ -1,5 +1,4 @@
 -- what a user must believe: the lines, what each prints, and the whole session
-pub mod Kinds
 pub mod Printed
 pub mod Served
 pub mod Theorems

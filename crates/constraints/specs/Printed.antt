@@ -1,14 +1,7 @@
 -- What the lines of a constraint file print, byte by byte. Assumes nothing.
 use Rattle.std.specs.Prelude.{ℕ, suc, cond, List, [], ◌∷◌, ◌++◌, Some, None, Ok, Err, decimal, Option, Result, ◌==◌}
 use Rattle.rules.specs.Readings.{Reading}
-
--- `?` on a line
-abbrev pub asked : List ℕ
-asked = 63 ∷ 10 ∷ []
-
--- `! ` with a number on a line
-abbrev pub denied : ℕ → List ℕ
-denied n = 33 ∷ 32 ∷ (decimal n ++ (10 ∷ []))
+use Rattle.session.specs.Served.{denied}
 
 -- a rule that is added prints nothing, another the number
 abbrev pub rule_said : Result ℕ ℕ → List ℕ

@@ -1,5 +1,5 @@
 -- What the lines of a constraint file do: which policy is in force, which rules are held, and what is printed. Assumes nothing.
-use Rattle.std.specs.Prelude.{◌≡◌, ℕ, ◌<◌, ◌≤◌, List, [], ◌∷◌, ◌++◌, length, Ok, Err, Result, ◌≢◌}
+use Rattle.std.specs.Prelude.{ℕ, ◌<◌, ◌≤◌, List, [], ◌∷◌, ◌++◌, length, Ok, Err, Result, ◌≢◌}
 use Rattle.rules.specs.Alphabets.{bytes_admitted, bytes_held, folded}
 use Rattle.rules.specs.Languages.{Sight, seen}
 use Rattle.rules.specs.Readings.{Reading}
@@ -12,10 +12,11 @@ use Rattle.policies.specs.declared.named.NamedPolicy.{NamedPolicy}
 use Rattle.policies.specs.declared.named.NamedPolicy.TheVariants.{Posix}
 use Rattle.sheet.specs.Changes.{Rules, add_answer, added}
 use Rattle.sheet.specs.Questions.{at, Read, BestBy, Lowest, needed}
-use Rattle.constraints.specs.declared.line.State.{State}
-use Rattle.constraints.specs.declared.line.State.TheVariants.{Awaiting, Serving}
-use Rattle.constraints.specs.Kinds.{Names, NamesNone, rule_line, name_line}
-use Rattle.constraints.specs.Printed.{asked, rule_said, name_said}
+use Rattle.session.specs.declared.line.State.{State}
+use Rattle.session.specs.declared.line.State.TheVariants.{Awaiting, Serving}
+use Rattle.session.specs.Kinds.{Names, NamesNone, rule_line, name_line}
+use Rattle.session.specs.Served.{asked}
+use Rattle.constraints.specs.Printed.{rule_said, name_said}
 
 -- a name, as the leaves see it: bytes, capitals as small letters
 abbrev pub folded_name : List ℕ → List Sight
@@ -34,12 +35,6 @@ pub data NameAnswered (above : Order) (rules : Rules) (bench : ℕ) (name : List
   bench_too_short : {place : ℕ} → length name ≤ 120 → Lowest rules (folded_name name) place → bench < needed (length (at rules place)) (length name) → NameAnswered above rules bench name (Err 9)
   name_read : {place : ℕ} {x : Reading} → length name ≤ 120 → Lowest rules (folded_name name) place → needed (length (at rules place)) (length name) ≤ bench
       → BestBy above (at rules place) (folded_name name) x → NameAnswered above rules bench name (Ok (place, x))
-
--- something that P allows is printed behind what was printed before
-pub record Appends (P : List ℕ → Type 0) (old new : List ℕ) : Type 0 where
-  pub printed : List ℕ
-  pub allowed : P printed
-  pub appended : new ≡ old ++ printed
 
 -- a line, served with a bench of this length: state, policy and rules before it, then those after it, and what it prints
 pub data Answers (bench : ℕ) : State → NamedPolicy → Rules → List ℕ → State → NamedPolicy → Rules → List ℕ → Type 0 where

@@ -2,7 +2,7 @@
 use Rattle.std.specs.Prelude.{◌≡◌, ℕ, List}
 use Rattle.policies.specs.declared.named.NamedPolicy.{NamedPolicy}
 use Rattle.sheet.specs.Changes.{Rules}
-use Rattle.constraints.specs.declared.line.State.{State}
+use Rattle.session.specs.declared.line.State.{State}
 use Rattle.constraints.specs.Served.{Session}
 
 -- from one state, policy and list of rules, the lines decide what is printed

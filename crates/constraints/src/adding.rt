@@ -20,5 +20,5 @@ pub(crate) fn add_text(
 {
     let mut rows = [Row::inner(EMPTY); 64];
     let count = read(text, &mut rows)?;
-    sheet.add(&rows[0..count])
+    sheet.add(&rows[..count])
 }

@@ -2,13 +2,12 @@
 
 mod adding;
 pub mod answers;
-mod line;
 mod naming;
 mod printing;
 pub mod theorems;
 
-pub use answers::{BENCH, LIMIT, serve, serve_line};
-pub use line::State;
+pub use answers::{BENCH, FileSheet, LIMIT, serve, serve_line};
+pub use session::State;
 
 #[cfg(test)]
 mod tests;

@@ -1,19 +1,19 @@
-ghost use Rattle.std.specs.Prelude.{◌≡◌, ◌≤◌, length, MatchResult};
+ghost use Rattle.std.specs.Prelude.{◌≤◌, length};
 ghost use Rattle.policies.specs.Named.{named_above};
 ghost use Rattle.sheet.specs.Questions.{Lowest};
 ghost use Rattle.sheet.specs.Sheets.{locked};
 ghost use Rattle.constraints.specs.NameLines.{SaysAnswer};
-ghost use Rattle.constraints.specs.Served.{Appends, folded_name};
+ghost use Rattle.session.specs.Served.{PrintsBy};
+ghost use Rattle.constraints.specs.Served.{folded_name};
 
+use crate::answers::FileSheet;
 use crate::printing::{print_reading, print_refusal};
-use policies::NamedPolicy;
-use rules::alphabet::{Bytes, Folding};
-use sheet::LockedSheet;
 use std::alloc::AllocError;
 
 // Prints the reading of the name by the rule at the lowest place that reads it, or that the bench is too short.
+// Sheet, bench and output are three borrows that one caller hands on: a struct of them would be no plainer.
 fn serve_reading(
-    sheet: &LockedSheet<Folding<Bytes>, NamedPolicy>,
+    sheet: &FileSheet,
     place: usize,
     name: &[u8],
     bench: &mut [u8],
@@ -21,7 +21,7 @@ fn serve_reading(
 ) -> Result<(), AllocError>
     requires short { length name.now ≤ 120 }
     requires lowest { Lowest (locked sheet.now) (folded_name name.now) place }
-    ensures { MatchResult result (λ _. Appends (SaysAnswer (named_above sheet.now.policy) (locked sheet.now) (length bench.old) name.now) out.old.items out.new.items) (λ _. out.new.items ≡ out.old.items) }
+    ensures { PrintsBy result (λ _. SaysAnswer (named_above sheet.now.policy) (locked sheet.now) (length bench.old) name.now) out.old.items out.new.items }
 {
     let mut report = [None; 64];
     match sheet.spans(place, name, bench, &mut report) {
@@ -32,12 +32,12 @@ fn serve_reading(
 
 // Prints the place and the reading of the name, or why there is none.
 pub(crate) fn serve_name(
-    sheet: &LockedSheet<Folding<Bytes>, NamedPolicy>,
+    sheet: &FileSheet,
     name: &[u8],
     bench: &mut [u8],
     out: &mut Vec<u8>,
 ) -> Result<(), AllocError>
-    ensures { MatchResult result (λ _. Appends (SaysAnswer (named_above sheet.now.policy) (locked sheet.now) (length bench.old) name.now) out.old.items out.new.items) (λ _. out.new.items ≡ out.old.items) }
+    ensures { PrintsBy result (λ _. SaysAnswer (named_above sheet.now.policy) (locked sheet.now) (length bench.old) name.now) out.old.items out.new.items }
 {
     match sheet.govern(name) {
         Ok(place) => serve_reading(sheet, place, name, bench, out),

@@ -1,8 +1,6 @@
 ghost use Rattle.constraints.specs.Theorems.{OneSession};
 
 // The lines decide what is printed, from any state, policy and rules.
-pub fn session_is_decided() -> u8
+pub fn session_is_decided()
     ensures { OneSession }
-{
-    0
-}
+{}

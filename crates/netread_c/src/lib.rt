@@ -16,7 +16,8 @@ fn hand_out(printed: &[u8], output: &mut [u8]) -> usize
     count
 }
 
-// What the lines of the input print; the greatest number where memory is wanting. `heap` takes no bytes, so C passes nothing for it.
+// What the lines of the input print. `heap` takes no bytes, so C passes nothing for it.
+// The greatest number says that memory is wanting, since C takes one number and no `Result`.
 #[unsafe(no_mangle)]
 pub extern "C" fn netread_serve(heap: Global, input: &[u8], output: &mut [u8]) -> usize
     ensures { Serves input.now output.old output.new result }

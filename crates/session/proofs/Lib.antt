@@ -1,5 +1,5 @@
 pub mod Shapes
 mod Splits
-mod Prints
+pub mod Prints
 mod Turns
 mod Decided

@@ -1,6 +1,9 @@
 -- The first line of an input, and the lines behind it.
-use Rattle.std.proofs.Common.{◌≡◌, ℕ, zero, suc, ◌+◌, ◌-◌, ◌<◌, false, eqb, List, [], ◌∷◌, length, get_or, take, drop, ap, ◌∙◌, subst, arith, length-drop, drop_of_length-le, take_all, eq-eqb, ne_eqb}
-use lib.Seq.{take-nil}
+use Rattle.std.proofs.Common.{◌≡◌, ℕ, zero, suc, ◌+◌, ◌-◌, ◌<◌, Bool, true, false, cond, eqb, ltb, List, [], ◌∷◌, Some, None, length, get_or, take, drop, refl, ap, ◌∙◌, arith, length-drop, take_all, eq-eqb, ne_eqb, eqb-true, ltb-true, ltb-false}
+use Rattle.std.specs.Prelude.{◌==◌, position}
+use Rattle.std.specs.List.{position_or_len}
+use Rattle.std.proofs.lemmas.Bool.{eqb-false}
+use Rattle.std.proofs.lemmas.List.Sums.{fails_before_first, passes_at_first}
 use Rattle.session.specs.Lines.{onto, lines}
 
 -- no byte 10 stands before the place
@@ -28,16 +31,28 @@ last (b ∷ c ∷ l) less h =
     let r = last (c ∷ l) (omega arith) (clear_tail b (c ∷ l) (length (c ∷ l)) h) in
     rw ne (ap (λ (x : List (List ℕ)). onto b x) r)
 
--- the same, as slices are cut
-pub line_ended : (l : List ℕ) (n : ℕ) → n < length l → Clear l n → get_or l n 0 ≡ 10 → (lines l ≡ take (n - 0) l ∷ lines (take (length l - (n + 1)) (drop (n + 1) l))) × (length (take (length l - (n + 1)) (drop (n + 1) l)) < length l)
-line_ended l n less h e =
-    let m : n - 0 ≡ n = omega arith in
+found_by : (b : Bool) (q n : ℕ) → Some n ≡ cond b (Some q) None → (b ≡ true) × (n ≡ q)
+found_by true q n e = (refl, cc)
+found_by false q n e = absurd cc
+
+missed_by : (b : Bool) (q : ℕ) → None ≡ cond b (Some q) None → b ≡ false
+missed_by true q e = absurd cc
+missed_by false q e = refl
+
+-- the same, by the place of the first byte 10
+pub line_ended : (l : List ℕ) (n : ℕ) → Some n ≡ position (λ b. b == 10) l → (lines l ≡ take n l ∷ lines (take (length l - (n + 1)) (drop (n + 1) l))) × (length (take (length l - (n + 1)) (drop (n + 1) l)) < length l)
+line_ended l n e =
+    let q : ℕ = position_or_len (λ b. b == 10) l in
+    let f = found_by (ltb q (length l)) q n e in
+    let less : n < length l = omega (arith, ltb-true q (length l) f.0, f.1) in
+    let h : Clear l n = λ k j x. eqb-false _ _ (fails_before_first (λ b. b == 10) l k 0 (omega (arith, f.1))) x in
+    let t : get_or l n 0 ≡ 10 = ap (λ (k : ℕ). get_or l k 0) f.1 ∙ eqb-true _ _ (passes_at_first (λ b. b == 10) l 0 (omega (arith, f.1))) in
     let s : n + 1 ≡ suc n = omega arith in
     let r : take (length l - (n + 1)) (drop (n + 1) l) ≡ drop (n + 1) l = take_all (length l - (n + 1)) (drop (n + 1) l) (simp length-drop (omega arith)) in
-    rw (r, m) (rw s (ended l n less h e), simp length-drop (omega arith))
+    rw r (rw s (ended l n less h t), simp length-drop (omega arith))
 
-pub line_last : (l : List ℕ) (n : ℕ) → 0 < length l → n ≡ length l → Clear l n → (lines l ≡ take (n - 0) l ∷ lines (take (length l - n) (drop n l))) × (length (take (length l - n) (drop n l)) < length l)
-line_last l n some e h =
-    let r : take (length l - n) (drop n l) ≡ [] = ap (λ (x : List ℕ). take (length l - n) x) (drop_of_length-le l (omega arith)) ∙ take-nil (length l - n) in
-    let t : take (n - 0) l ≡ l = take_all (n - 0) l (omega arith) in
-    rw (r, t) (last l some (subst (λ (k : ℕ). Clear l k) e h), omega arith)
+pub line_last : (l : List ℕ) → 0 < length l → None ≡ position (λ b. b == 10) l → lines l ≡ l ∷ []
+line_last l some e =
+    let q : ℕ = position_or_len (λ b. b == 10) l in
+    let f = ltb-false q (length l) (missed_by (ltb q (length l)) q e) in
+    last l some (λ k j x. eqb-false _ _ (fails_before_first (λ b. b == 10) l k 0 (omega (arith, f))) x)

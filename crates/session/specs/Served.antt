@@ -1,5 +1,5 @@
 -- What netread prints, line by line. Assumes nothing.
-use Rattle.std.specs.Prelude.{◌≡◌, ℕ, ◌≤◌, List, [], ◌∷◌, ◌++◌, length, decimal, ◌≢◌}
+use Rattle.std.specs.Prelude.{◌≡◌, ℕ, ◌≤◌, List, [], ◌∷◌, ◌++◌, length, decimal, Result, MatchResult, ◌≢◌}
 use Rattle.rules.specs.Trees.{Tree, size}
 use Rattle.text.specs.Grammar.{Text}
 use Rattle.text.specs.Reading.{Denied}
@@ -28,6 +28,14 @@ pub record Appends (P : List ℕ → Type 0) (old new : List ℕ) : Type 0 where
   pub printed : List ℕ
   pub allowed : P printed
   pub appended : new ≡ old ++ printed
+
+-- this is printed behind what was printed before, and nothing where the call fails
+abbrev pub Prints : {X E : Type 0} → Result X E → List ℕ → List ℕ → List ℕ → Type 0
+Prints r printed old new = MatchResult r (λ _. new ≡ old ++ printed) (λ _. new ≡ old)
+
+-- the same of something that P allows beside the call's value
+abbrev pub PrintsBy : {X E : Type 0} → Result X E → (X → List ℕ → Type 0) → List ℕ → List ℕ → Type 0
+PrintsBy r P old new = MatchResult r (λ x. Appends (P x) old new) (λ _. new ≡ old)
 
 -- a line in a state: the state after it, and what it prints
 pub data Answers : State → List ℕ → State → List ℕ → Type 0 where

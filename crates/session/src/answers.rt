@@ -1,64 +1,46 @@
-ghost use Rattle.std.specs.Prelude.{◌≡◌, ◌++◌, take, IfOk, string_bytes, MatchResult};
-ghost use Rattle.rules.specs.Denials.{number};
+ghost use Rattle.std.specs.Prelude.{take, IfOk};
 ghost use Rattle.session.specs.Lines.{lines};
-ghost use Rattle.session.specs.Served.{Appends, asked, denied, RulePrints, Answers, Session, start};
+ghost use Rattle.session.specs.Served.{PrintsBy, RulePrints, Answers, Session, start};
 
 use crate::line::{Line, State, kind_of};
-use crate::lines::next_line;
+pub use crate::lines::LIMIT;
+use crate::lines::served_lines;
+use crate::printing::{print_denial, print_question};
+use rules::Row;
 use rules::row::EMPTY;
-use rules::{Denial, Row};
 use std::alloc::{AllocError, Global};
 use text::read;
 
-// As many bytes of input are served; the rest is passed over.
-pub const LIMIT: usize = 65_536;
-
-// `! ` and the number, on a line.
-fn denial_line(heap: Global, denial: Denial) -> Result<String, AllocError>
-    ensures { IfOk result (λ s. string_bytes s ≡ denied (number denial)) }
-{
-    let number = denial.number();
-    format!(in heap; "! {number}\n")
-}
-
 // Prints nothing if the text is read, or the number of its denial.
 fn serve_rule(text: &[u8], out: &mut Vec<u8>) -> Result<(), AllocError>
-    ensures { MatchResult result (λ _. Appends (RulePrints text.now) out.old.items out.new.items) (λ _. out.new.items ≡ out.old.items) }
+    ensures { PrintsBy result (λ _. RulePrints text.now) out.old.items out.new.items }
 {
     let mut rows = [Row::inner(EMPTY); 64];
     match read(text, &mut rows) {
         Ok(_) => Ok(()),
-        Err(denial) => {
-            let line = denial_line(*out.allocator(), denial)?;
-            out.extend_from_slice(line.as_bytes())
-        }
+        Err(denial) => print_denial(denial, out),
     }
-}
-
-// Prints `?`; the state stays.
-fn question(state: State, out: &mut Vec<u8>) -> Result<State, AllocError>
-    ensures { MatchResult result (λ s. (s ≡ state) × (out.new.items ≡ out.old.items ++ asked)) (λ _. out.new.items ≡ out.old.items) }
-{
-    out.extend_from_slice(b"?\n")?;
-    Ok(state)
 }
 
 // Serves one line: the state after it, and what it prints behind what was printed before.
 pub fn serve_line(state: State, line: &[u8], out: &mut Vec<u8>) -> Result<State, AllocError>
-    ensures { MatchResult result (λ s. Appends (Answers state line.now s) out.old.items out.new.items) (λ _. out.new.items ≡ out.old.items) }
+    ensures { PrintsBy result (λ s. Answers state line.now s) out.old.items out.new.items }
 {
     match (state, kind_of(line)) {
-        (State::Awaiting, Line::Policy) => Ok(State::Serving),
-        (State::Awaiting, Line::Rule(_)) => question(state, out),
-        (State::Awaiting, Line::Name(_)) => question(state, out),
-        (State::Awaiting, Line::Other) => question(state, out),
+        (State::Awaiting, Line::Policy(_)) => Ok(State::Serving),
         (State::Serving, Line::Rule(text)) => {
             serve_rule(text, out)?;
-            Ok(State::Serving)
+            Ok(state)
         }
-        (State::Serving, Line::Name(_)) => question(state, out),
-        (State::Serving, Line::Policy) => question(state, out),
-        (State::Serving, Line::Other) => question(state, out),
+        (State::Awaiting, Line::Rule(_))
+        | (State::Awaiting, Line::Name(_))
+        | (State::Awaiting, Line::Other)
+        | (State::Serving, Line::Policy(_))
+        | (State::Serving, Line::Name(_))
+        | (State::Serving, Line::Other) => {
+            print_question(out)?;
+            Ok(state)
+        }
     }
 }
 
@@ -68,11 +50,8 @@ pub fn serve(heap: Global, input: &[u8]) -> Result<Vec<u8>, AllocError>
 {
     let mut out = Vec::new(heap);
     let mut state = State::Awaiting;
-    let served = input.len().min(LIMIT);
-    let mut rest = &input[0..served];
-    while let Some((line, after)) = next_line(rest) {
+    for line in served_lines(input) {
         state = serve_line(state, line, &mut out)?;
-        rest = after;
     }
     Ok(out)
 }

@@ -1,5 +1,7 @@
-ghost use Rattle.std.specs.Prelude.{◌≡◌, true, false};
-ghost use Rattle.session.specs.Kinds.{Is, NamesPolicy};
+ghost use Rattle.std.specs.Prelude.{MatchOption};
+ghost use Rattle.session.specs.Kinds.{Is, Names, NamesNone};
+
+use policies::NamedPolicy;
 
 // Whether the policy has been named. Nothing is kept in it.
 #[derive(Clone, Copy)]
@@ -11,28 +13,28 @@ pub enum State {
 // A line by how it begins; a pattern and a name borrow their part of it.
 #[derive(Clone, Copy)]
 pub enum Line<'a> {
-    Policy,
+    Policy(NamedPolicy),
     Rule(&'a [u8]),
     Name(&'a [u8]),
     Other,
 }
 
-fn names_policy(line: &[u8]) -> bool
-    ensures yes { result ≡ true → NamesPolicy line.now }
-    ensures no { result ≡ false → NamesPolicy line.now → ⊥ }
+fn policy_named(line: &[u8]) -> Option<NamedPolicy>
+    ensures { MatchOption result (NamesNone line.now) (λ p. Names p line.now) }
 {
     match line {
-        b"posix" => true,
-        b"first" => true,
-        _ => false,
+        b"posix" => Some(NamedPolicy::Posix),
+        b"first" => Some(NamedPolicy::FirstLongest),
+        _ => None,
     }
 }
 
-pub(crate) fn kind_of(line: &[u8]) -> Line
+// Of which kind the line is.
+pub fn kind_of(line: &[u8]) -> Line
     ensures { Is result line.now }
 {
-    if names_policy(line) {
-        return Line::Policy;
+    if let Some(policy) = policy_named(line) {
+        return Line::Policy(policy);
     }
     match line {
         [b'r', b' ', text @ ..] => Line::Rule(text),

@@ -1,18 +1,44 @@
-ghost use Rattle.std.specs.Prelude.{◌≡◌, ℕ, ◌<◌, ◌≤◌, ◌∷◌, length, MatchOption, ◌≢◌, slice_index};
+ghost use Rattle.std.specs.Prelude.{◌≡◌, ℕ, ◌<◌, ◌∷◌, length, take, position, MatchOption, ◌==◌};
+ghost use Rattle.std.specs.Iterator.{YieldsFirstRef, item_count};
 ghost use Rattle.session.specs.Lines.{lines};
 
-// Where the first line ends: at its byte 10, or at the end of the input.
-fn line_end(input: &[u8]) -> usize
-    ensures within { result ≤ length input.now }
-    ensures before { (k : ℕ) → k < result → slice_index input.now k ≢ 10 }
-    ensures found { result < length input.now → slice_index input.now result ≡ 10 }
-{
-    for (i, byte) in input.iter().enumerate() {
-        if *byte == b'\n' {
-            return i;
-        }
+// As many bytes of input are served; the rest is passed over.
+pub const LIMIT: usize = 65_536;
+
+// The lines of an input in turn, each without the byte that ends it.
+#[derive(Drop)]
+pub struct Lines<'a> {
+    rest: &'a [u8],
+}
+
+impl<'a> Iterator for Lines<'a> {
+    type Item = &'a [u8];
+
+    ghost next_gives = { YieldsFirstRef (λ s. lines s.rest.now) };
+
+    ghost remaining = { item_count (λ s. lines s.rest.now) };
+
+    fn next(&mut self) -> Option<&'a [u8]> {
+        let (line, rest) = next_line(self.rest)?;
+        self.rest = rest;
+        Some(line)
     }
-    input.len()
+}
+
+// The lines of what is served of an input.
+pub fn served_lines(input: &[u8]) -> Lines
+    ensures { result.rest.now ≡ take 65536 input.now }
+{
+    Lines {
+        rest: &input[..input.len().min(LIMIT)],
+    }
+}
+
+// The place of the first byte 10.
+fn line_end(input: &[u8]) -> Option<usize>
+    ensures { result ≡ position (λ byte. byte == 10) input.now }
+{
+    input.iter().position(|byte| *byte == b'\n')
 }
 
 // The first line, without the byte that ends it, and what follows.
@@ -22,12 +48,8 @@ pub fn next_line(input: &[u8]) -> Option<(&[u8], &[u8])>
     if input.is_empty() {
         return None;
     }
-    let end = line_end(input);
-    let line = &input[0..end];
-    if end < input.len() {
-        let next = end + 1;
-        Some((line, &input[next..]))
-    } else {
-        Some((line, &input[end..]))
+    match line_end(input) {
+        Some(end) => Some((&input[..end], &input[end + 1..])),
+        None => Some((input, &[])),
     }
 }

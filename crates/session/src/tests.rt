@@ -2,17 +2,9 @@ use crate::answers::serve;
 use std::process::Abort;
 use std::test::Fail;
 
-fn same(a: &[u8], b: &[u8]) -> bool {
-    let mut equal = a.len() == b.len();
-    for (x, y) in a.iter().zip(b) {
-        equal = equal && *x == *y;
-    }
-    equal
-}
-
 fn prints(rt: &(impl Abort + AllocGlobal), input: &[u8], want: &[u8]) -> Result<(), Fail> {
     let printed = serve(rt.alloc(), input)?;
-    assert!(rt; same(&printed, want));
+    assert_eq!(rt; printed.as_slice(), want);
     Ok(())
 }
 

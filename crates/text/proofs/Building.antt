@@ -59,24 +59,3 @@ holds_insert old new front q at end r i e f h k less room = by_cases (dec_lt k a
         let s2 : get_or new (j + 1) (row 0 0 0) ≡ get_or old j (row 0 0 0) = i.above j (omega arith) b (omega arith) in
         let s3 : get_or old j (row 0 0 0) ≡ get_or (front ++ q) j (row 0 0 0) = h j (omega arith) (omega arith) in
         s ∙ s2 ∙ s3 ∙ sym (behind front q r j (omega arith)) ∙ ap (λ (n : ℕ). get_or (front ++ (r ∷ q)) n (row 0 0 0)) (sym m)
-
-pub set_past : (l : List Row) (i : ℕ) (r : Row) → length l ≤ i → l ≡ set l i r
-set_past [] i r h = refl
-set_past (a ∷ l) zero r h = absurd (omega arith)
-set_past (a ∷ l) (suc i) r h = ap (λ (w : List Row). a ∷ w) (set_past l i r (omega arith))
-
--- one row moved up by one
-pub moved_up : (s old : List Row) (k j : ℕ) → k < length s → 0 < k → k - 1 ≤ j → get_or s (k - 1) (row 0 0 0) ≡ get_or old (k - 1) (row 0 0 0) → (k ≤ j → get_or s (j + 1) (row 0 0 0) ≡ get_or old j (row 0 0 0)) → get_or (set s k (get_or s (k - 1) (row 0 0 0))) (j + 1) (row 0 0 0) ≡ get_or old j (row 0 0 0)
-moved_up s old k j long pos le e f = by_cases (dec_lt j k)
-  where
-    by_cases : Dec (j < k) → get_or (set s k (get_or s (k - 1) (row 0 0 0))) (j + 1) (row 0 0 0) ≡ get_or old j (row 0 0 0)
-    by_cases (yes l) =
-        let m : j + 1 ≡ k = omega arith in
-        let n : k - 1 ≡ j = omega arith in
-        ap (λ (w : ℕ). get_or (set s k (get_or s (k - 1) (row 0 0 0))) w (row 0 0 0)) m
-        ∙ get_or-set_same s k (get_or s (k - 1) (row 0 0 0)) (row 0 0 0) long
-        ∙ e
-        ∙ ap (λ (w : ℕ). get_or old w (row 0 0 0)) n
-    by_cases (no l) =
-        let n : j + 1 ≢ k = omega arith in
-        get_or-set_other s k (j + 1) (get_or s (k - 1) (row 0 0 0)) (row 0 0 0) n ∙ f (omega arith)

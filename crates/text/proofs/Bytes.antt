@@ -1,7 +1,7 @@
 -- The front of a text, as the lexer's patterns take it apart.
 use Rattle.std.proofs.Common.{◌≡◌, ℕ, suc, ◌+◌, ◌-◌, ◌<◌, ◌≤◌, List, [], ◌∷◌, ◌++◌, length, get_or, take, drop, sym, refl, ap, ◌∙◌, subst, le_refl, add-one, arith, length-append, length-drop, take-append-drop, drop_of_length-le, take_all, drop-cons, drop-drop}
 use lib.Seq.{drop-append_seam}
-use Rattle.text.specs.Signs.{Mark, one, Lex, lex_open, lex_close, lex_bar, lex_star, lex_dot, lex_plain, lex_escape, lex_class, Signed, Unsigned, Stops, stops_empty, stops_close, stops_bar}
+use Rattle.text.specs.Signs.{Mark, one, Lex, lex_escape, lex_class, Signed, Stops, stops_empty, stops_close, stops_bar}
 use Rattle.text.proofs.Lexing.{lex_front, lex_to}
 use Rattle.text.specs.declared.sign.Sign.{Sign}
 
@@ -20,49 +20,6 @@ two_is [] h = absurd (omega arith)
 two_is (a ∷ []) h = absurd (omega arith)
 two_is (a ∷ b ∷ x) h = rw (rest_is 1 (a ∷ b ∷ x), rest_is 1 (b ∷ x)) refl
 
-pub unsigned_empty : (i : List ℕ) → length i < 1 → Unsigned i
-unsigned_empty [] h m x l = elim l [ ]
-unsigned_empty (a ∷ i) h m x l = absurd (omega arith)
-
-lex_end : {i x : List ℕ} {m : Mark} → Lex i m x → get_or i 0 0 ≡ 93 → ⊥
-lex_end lex_open e = omega arith
-lex_end lex_close e = omega arith
-lex_end lex_bar e = omega arith
-lex_end lex_star e = omega arith
-lex_end lex_dot e = omega arith
-lex_end (lex_plain p) e = p.not_class_end e
-lex_end lex_escape e = omega arith
-lex_end (lex_class h) e = omega arith
-
-pub unsigned_end : (i : List ℕ) → get_or i 0 0 ≡ 93 → Unsigned i
-unsigned_end i e m x l = lex_end l e
-
-lex_cut : {i x : List ℕ} {m : Mark} → Lex i m x → get_or i 0 0 ≡ 92 → length i < 2 → ⊥
-lex_cut lex_open e h = omega arith
-lex_cut lex_close e h = omega arith
-lex_cut lex_bar e h = omega arith
-lex_cut lex_star e h = omega arith
-lex_cut lex_dot e h = omega arith
-lex_cut (lex_plain p) e h = p.not_escape e
-lex_cut lex_escape e h = omega arith
-lex_cut (lex_class k) e h = omega arith
-
-pub unsigned_escape : (i : List ℕ) → get_or i 0 0 ≡ 92 → length i < 2 → Unsigned i
-unsigned_escape i e h m x l = lex_cut l e h
-
-lex_class_is : {i x : List ℕ} {m : Mark} → Lex i m x → get_or i 0 0 ≡ 91 → (4 < length i → get_or i 2 0 ≡ 45 → get_or i 4 0 ≡ 93 → get_or i 1 0 ≤ get_or i 3 0 → ⊥) → ⊥
-lex_class_is lex_open e h = omega arith
-lex_class_is lex_close e h = omega arith
-lex_class_is lex_bar e h = omega arith
-lex_class_is lex_star e h = omega arith
-lex_class_is lex_dot e h = omega arith
-lex_class_is (lex_plain p) e h = p.not_class e
-lex_class_is lex_escape e h = omega arith
-lex_class_is (lex_class k) e h = h (omega arith) refl refl k
-
-pub unsigned_class : (i : List ℕ) → get_or i 0 0 ≡ 91 → (4 < length i → get_or i 2 0 ≡ 45 → get_or i 4 0 ≡ 93 → get_or i 1 0 ≤ get_or i 3 0 → ⊥) → Unsigned i
-unsigned_class i e h m x l = lex_class_is l e h
-
 pub there : (i : List ℕ) (at b : ℕ) → at < length i → get_or i at 0 ≡ b → drop at i ≡ b ∷ drop (at + 1) i
 there i at b h e = drop-cons i at 0 h ∙ ap (λ (w : ℕ). w ∷ drop (suc at) i) e ∙ ap (λ (n : ℕ). b ∷ drop n i) (sym (add-one at))
 
@@ -71,9 +28,6 @@ there_back i z at b h e = let f = drop-cons i at 0 h in cc
 
 pub past : (i : List ℕ) (at : ℕ) → length i ≤ at → drop at i ≡ []
 past i at h = drop_of_length-le i h
-
-pub past_none : (i z : List ℕ) (at b : ℕ) → length i ≤ at → drop at i ≡ b ∷ z → ⊥
-past_none i z at b h e = omega (arith, ap length (sym (past i at h) ∙ e))
 
 pub stops_from : {x : List ℕ} → Stops x → (x ≡ [] → ⊥) → ((z : List ℕ) → x ≡ 41 ∷ z → ⊥) → ((z : List ℕ) → x ≡ 124 ∷ z → ⊥) → ⊥
 stops_from stops_empty h k l = h refl

@@ -3,7 +3,7 @@ use Rattle.std.proofs.Common.{◌≡◌, ℕ, ◌+◌, false, List, ◌∷◌, �
 use Rattle.rules.specs.declared.row.Row.{Row}
 use Rattle.rules.specs.Trees.{Tree, empty, leaf, choice, sequence, star, row, rows, size}
 use Rattle.rules.proofs.RowFacts.{length_rows}
-use Rattle.text.specs.Signs.{Mark, open_mark, star_mark, Lex, lex_close, lex_bar, lex_star, mark, Signed, Unsigned, Ends, ends_empty, ends_close, Stops, stops_empty, stops_close, stops_bar}
+use Rattle.text.specs.Signs.{Mark, open_mark, star_mark, Lex, lex_close, lex_bar, lex_star, mark, Signed, Ends, ends_empty, ends_close, Stops, stops_empty, stops_close, stops_bar}
 use Rattle.text.specs.declared.sign.Sign.{Sign}
 use Rattle.text.specs.Readers.{stars_none, stars_more, Alone, ReadText, ReadBranch, ReadPiece, ReadAtom, text_one, text_either, branch_none, branch_one, branch_and, piece, atom_group, atom_alone}
 use Rattle.text.specs.Written.{Holds, Inserted, Reaches, Refuses, Starred}
@@ -42,10 +42,6 @@ text_more {count = count} {c = c} {old = old} {s1 = s1} {s2 = s2} {new = new} b 
   written = pair_written old s1 s2 new count c b.tree t.tree (row 2 0 0) b.counted b.written i t.written;
 }
 
-pub text_refused_first : {i : List ℕ} → Refuses ReadBranch i → Refuses ReadText i
-text_refused_first h t x (text_one b e) = h _ _ b
-text_refused_first h t x (text_either b l r) = h _ _ b
-
 refused_after_bar : {i y z x : List ℕ} {p t : Tree} → ReadText i t x → ReadBranch i p y → y ≡ 124 ∷ z → Refuses ReadText z → ⊥
 refused_after_bar (text_one c f) b e h = ends_no_bar f (lex_at 124 (sym (same_branch b c).1 ∙ e) lex_bar)
 refused_after_bar {x = x} (text_either {q = q} c l r) b e h =
@@ -73,14 +69,6 @@ branch_more {count = count} {c = c} {old = old} {s1 = s1} {s2 = s2} {new = new} 
   counted = omega arith;
   written = pair_written old s1 s2 new count c b.tree t.tree (row 3 0 0) b.counted b.written i t.written;
 }
-
-refused_branch : {i x : List ℕ} {t : Tree} → ReadBranch i t x → (Stops i → ⊥) → Refuses ReadPiece i → ⊥
-refused_branch (branch_none s) h k = h s
-refused_branch (branch_one p s) h k = k _ _ p
-refused_branch (branch_and p g b) h k = k _ _ p
-
-pub branch_refused_first : {i : List ℕ} → (Stops i → ⊥) → Refuses ReadPiece i → Refuses ReadBranch i
-branch_refused_first h k t x d = refused_branch d h k
 
 refused_after_piece : {i y x : List ℕ} {p t : Tree} → ReadBranch i t x → ReadPiece i p y → (Stops y → ⊥) → Refuses ReadBranch y → ⊥
 refused_after_piece (branch_none s) b h k = piece_no_stop b s
@@ -112,12 +100,6 @@ piece_read a f =
     let s = f a.tree a.counted in
     record { tree = s.tree; reads = piece a.reads s.reads; counted = s.counted; written = λ front long h. s.written front long (a.written front long h) }
 
-refused_piece : {i x : List ℕ} {t : Tree} → ReadPiece i t x → Refuses ReadAtom i → ⊥
-refused_piece (piece a s) h = h _ _ a
-
-pub piece_refused : {i : List ℕ} → Refuses ReadAtom i → Refuses ReadPiece i
-piece_refused h t x d = refused_piece d h
-
 moved : {R : List ℕ → Tree → List ℕ → Type 0} {text : List ℕ} {at count to to2 end end2 : ℕ} {old new new2 : List Row} → to2 ≡ to → end2 ≡ end → new2 ≡ new → Reaches R text at count to end old new → Reaches R text at count to2 end2 old new2
 moved {R = R} {text = text} {at = at} {to = to} e f g r = record {
   tree = r.tree;
@@ -146,13 +128,6 @@ leaf_put l a long e f g = moved e f g (atom_leaf l a long)
 
 pub atom_grouped : {text : List ℕ} {at count a b end : ℕ} {old new : List Row} → Lex (drop at text) open_mark (drop a text) → Reaches ReadText text a count b end old new → drop b text ≡ 41 ∷ drop (b + 1) text → Reaches ReadAtom text at count (b + 1) end old new
 atom_grouped l t e = record { tree = t.tree; reads = atom_group l t.reads (lex_at 41 e lex_close); counted = t.counted; written = t.written }
-
-refused_atom : {i x : List ℕ} {t : Tree} → ReadAtom i t x → Unsigned i → ⊥
-refused_atom (atom_group l r k) h = h _ _ l
-refused_atom (atom_alone l a) h = h _ _ l
-
-pub atom_refused : {i : List ℕ} → Unsigned i → Refuses ReadAtom i
-atom_refused h t x d = refused_atom d h
 
 refused_open : {i x y : List ℕ} {t : Tree} → ReadAtom i t x → Lex i open_mark y → Refuses ReadText y → ⊥
 refused_open (atom_group {z = z} {t = t} l r k) m h = h t z (move_text (one_sign l m).1 r)

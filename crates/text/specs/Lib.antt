@@ -6,3 +6,4 @@ pub mod Theorems
 pub mod Signs
 pub mod Readers
 pub mod Written
+pub mod Steps

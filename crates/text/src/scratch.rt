@@ -16,10 +16,9 @@ pub(crate) fn put(scratch: &mut [Row; 64], at: usize, row: Row)
 pub(crate) fn insert(scratch: &mut [Row; 64], at: usize, end: usize, row: Row)
     ensures { Inserted scratch.old at end row scratch.new }
 {
-    let mut k = end.min(63);
-    while k > at {
-        scratch[k] = scratch[k - 1];
-        k -= 1;
+    let kept = end.min(63);
+    if at < kept {
+        scratch.copy_within(at..kept, at + 1);
     }
     put(scratch, at, row);
 }

@@ -1,4 +1,4 @@
-ghost use Rattle.std.specs.Prelude.{◌≡◌, ℕ, ◌+◌, ◌<◌, ◌≤◌, true, false, List, ◌∷◌, length, drop, IfOk, MatchResult, ◌≢◌};
+ghost use Rattle.std.specs.Prelude.{◌≡◌, ℕ, ◌+◌, ◌<◌, ◌≤◌, true, false, List, ◌∷◌, length, drop, MatchResult, ◌≢◌};
 ghost use Rattle.rules.specs.Denials.{number};
 ghost use Rattle.text.specs.Signs.{Signed, Unsigned, Stops};
 
@@ -45,26 +45,12 @@ pub fn next_sign(text: &[u8]) -> Result<(Sign, &[u8]), Denial>
     }
 }
 
-// The sign at this place of the text, and the place behind it.
-pub(crate) fn sign_at(text: &[u8], at: usize) -> Result<(Sign, usize), Denial>
-    requires { at ≤ length text.now }
-    ensures near { IfOk result (λ p. (at < p.1) × (p.1 ≤ length text.now)) }
-    ensures read { MatchResult result (λ p. Signed p.0 (drop at text.now) (drop p.1 text.now)) (λ d. (number d ≡ 13) × Unsigned (drop at text.now)) }
-{
-    let (sign, rest) = next_sign(&text[at..])?;
-    Ok((sign, text.len() - rest.len()))
-}
-
 // Whether this byte stands at this place of the text.
 pub(crate) fn stands_at(text: &[u8], at: usize, byte: u8) -> bool
     ensures yes { result ≡ true → (at < length text.now) × (drop at text.now ≡ byte ∷ drop (at + 1) text.now) }
     ensures no { result ≡ false → (z : List ℕ) → drop at text.now ≢ byte ∷ z }
 {
-    if at < text.len() {
-        text[at] == byte
-    } else {
-        false
-    }
+    text.get(at) == Some(&byte)
 }
 
 // Whether a branch ends at this place of the text.
@@ -72,11 +58,8 @@ pub(crate) fn stops_at(text: &[u8], at: usize) -> bool
     ensures yes { result ≡ true → Stops (drop at text.now) }
     ensures no { result ≡ false → Stops (drop at text.now) → ⊥ }
 {
-    if at >= text.len() {
-        return true;
+    match text.get(at) {
+        None => true,
+        Some(byte) => *byte == b')' || *byte == b'|',
     }
-    if stands_at(text, at, b')') {
-        return true;
-    }
-    stands_at(text, at, b'|')
 }

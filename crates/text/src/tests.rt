@@ -1,38 +1,40 @@
 use crate::reader::read;
 use rules::Row;
+use rules::row::{CHOICE, EMPTY, LEAF, SEQUENCE, STAR};
 use std::process::Abort;
 use std::test::Fail;
 
-const BLANK: (u8, u32, u32) = (9, 9, 9);
-
-fn same(row: &Row, want: &(u8, u32, u32)) -> bool {
-    row.kind == want.0 && row.lo == want.1 && row.hi == want.2
-}
+const BLANK: Row = Row {
+    kind: 9,
+    lo: 9,
+    hi: 9,
+};
 
 fn all_blank(rows: &[Row]) -> bool {
-    let mut blank = true;
-    for row in rows {
-        blank = blank && same(row, &BLANK);
-    }
-    blank
+    rows.iter().all(|row| *row == BLANK)
+}
+
+fn leaf(lo: u32, hi: u32) -> Row {
+    Row::new(LEAF, lo, hi)
+}
+
+fn inner(kind: u8) -> Row {
+    Row::inner(kind)
 }
 
 // The text is read into these rows, and the rows behind them stay.
-fn reads(rt: &impl Abort, text: &[u8], want: &[(u8, u32, u32)]) -> Result<(), Fail> {
-    let mut rows = [Row::new(BLANK.0, BLANK.1, BLANK.2); 70];
+fn reads(rt: &impl Abort, text: &[u8], want: &[Row]) -> Result<(), Fail> {
+    let mut rows = [BLANK; 70];
     let count = read(text, &mut rows)?;
-    assert_eq!(rt; count, want.len());
-    for (row, one) in rows.iter().zip(want) {
-        assert!(rt; same(row, one));
-    }
     assert!(rt; count <= 70);
+    assert_eq!(rt; &rows[..count], want);
     assert!(rt; all_blank(&rows[count..]));
     Ok(())
 }
 
 // So many rows are written, and the buffer has just that many.
 fn counts(rt: &impl Abort, text: &[u8], want: usize) -> Result<(), Fail> {
-    let mut rows = [Row::new(BLANK.0, BLANK.1, BLANK.2); 64];
+    let mut rows = [BLANK; 64];
     assert!(rt; want <= 64);
     assert_eq!(rt; read(text, &mut rows[..want])?, want);
     Ok(())
@@ -52,26 +54,26 @@ fn denies_with(rt: &impl Abort, text: &[u8], rows: &mut [Row], number: u8) -> Re
 
 // The same, with room for so many rows.
 fn denies(rt: &impl Abort, text: &[u8], room: usize, number: u8) -> Result<(), Fail> {
-    let mut rows = [Row::new(BLANK.0, BLANK.1, BLANK.2); 70];
+    let mut rows = [BLANK; 70];
     assert!(rt; room <= 70);
     denies_with(rt, text, &mut rows[..room], number)
 }
 
 #[test]
 fn signs(rt: HostRuntime) -> Result<(), Fail> {
-    reads(&rt, b"", &[(0, 0, 0)])?;
-    reads(&rt, b"a", &[(1, 97, 97)])?;
-    reads(&rt, b"-", &[(1, 45, 45)])?;
-    reads(&rt, b"\x00", &[(1, 0, 0)])?;
-    reads(&rt, b"\xff", &[(1, 255, 255)])?;
-    reads(&rt, b".", &[(1, 0, 255)])?;
-    reads(&rt, b"\\*", &[(1, 42, 42)])?;
-    reads(&rt, b"\\\\", &[(1, 92, 92)])?;
-    reads(&rt, b"[0-9]", &[(1, 48, 57)])?;
-    reads(&rt, b"[a-a]", &[(1, 97, 97)])?;
-    reads(&rt, b"[--]]", &[(1, 45, 93)])?;
-    reads(&rt, b"()", &[(0, 0, 0)])?;
-    reads(&rt, b"|", &[(2, 0, 0), (0, 0, 0), (0, 0, 0)])
+    reads(&rt, b"", &[inner(EMPTY)])?;
+    reads(&rt, b"a", &[leaf(97, 97)])?;
+    reads(&rt, b"-", &[leaf(45, 45)])?;
+    reads(&rt, b"\x00", &[leaf(0, 0)])?;
+    reads(&rt, b"\xff", &[leaf(255, 255)])?;
+    reads(&rt, b".", &[leaf(0, 255)])?;
+    reads(&rt, b"\\*", &[leaf(42, 42)])?;
+    reads(&rt, b"\\\\", &[leaf(92, 92)])?;
+    reads(&rt, b"[0-9]", &[leaf(48, 57)])?;
+    reads(&rt, b"[a-a]", &[leaf(97, 97)])?;
+    reads(&rt, b"[--]]", &[leaf(45, 93)])?;
+    reads(&rt, b"()", &[inner(EMPTY)])?;
+    reads(&rt, b"|", &[inner(CHOICE), inner(EMPTY), inner(EMPTY)])
 }
 
 #[test]
@@ -80,38 +82,44 @@ fn nesting(rt: HostRuntime) -> Result<(), Fail> {
         &rt,
         b"a|b*c",
         &[
-            (2, 0, 0),
-            (1, 97, 97),
-            (3, 0, 0),
-            (4, 0, 0),
-            (1, 98, 98),
-            (1, 99, 99),
+            inner(CHOICE),
+            leaf(97, 97),
+            inner(SEQUENCE),
+            inner(STAR),
+            leaf(98, 98),
+            leaf(99, 99),
         ],
     )?;
-    reads(&rt, b"a**", &[(4, 0, 0), (4, 0, 0), (1, 97, 97)])?;
+    reads(&rt, b"a**", &[inner(STAR), inner(STAR), leaf(97, 97)])?;
     reads(
         &rt,
         b"(ab)*",
-        &[(4, 0, 0), (3, 0, 0), (1, 97, 97), (1, 98, 98)],
+        &[inner(STAR), inner(SEQUENCE), leaf(97, 97), leaf(98, 98)],
     )?;
     reads(
         &rt,
         b"a|b|c",
-        &[(2, 0, 0), (1, 97, 97), (2, 0, 0), (1, 98, 98), (1, 99, 99)],
+        &[
+            inner(CHOICE),
+            leaf(97, 97),
+            inner(CHOICE),
+            leaf(98, 98),
+            leaf(99, 99),
+        ],
     )?;
     reads(
         &rt,
         b"(a|ab)(b|)",
         &[
-            (3, 0, 0),
-            (2, 0, 0),
-            (1, 97, 97),
-            (3, 0, 0),
-            (1, 97, 97),
-            (1, 98, 98),
-            (2, 0, 0),
-            (1, 98, 98),
-            (0, 0, 0),
+            inner(SEQUENCE),
+            inner(CHOICE),
+            leaf(97, 97),
+            inner(SEQUENCE),
+            leaf(97, 97),
+            leaf(98, 98),
+            inner(CHOICE),
+            leaf(98, 98),
+            inner(EMPTY),
         ],
     )
 }
@@ -136,9 +144,7 @@ fn bracketed(letters: &[u8; 2]) -> [u8; 200] {
     let mut text = [b'('; 200];
     text[99] = letters[0];
     text[100] = letters[1];
-    for at in 101..200 {
-        text[at] = b')';
-    }
+    text[101..].fill(b')');
     text
 }
 

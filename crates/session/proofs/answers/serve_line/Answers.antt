@@ -1,27 +1,23 @@
-use Rattle.std.proofs.Common.{arith}
-use Rattle.session.proofs.Prints.{silent, passed_on, asks, awaits, declines, policy_or, two_kinds, comes, adds}
+use Rattle.std.proofs.Common.{rules}
+use Rattle.session.proofs.Prints.{silent, passed_on, asks, awaiting_rule, awaiting_name, awaiting_other, serving_policy, serving_name, serving_other, comes, adds}
 use Rattle.session.proofs.answers.serve_line.Goals as goal
+use Rattle.session.proofs.answers.serve_line.Goals.{in-Awaiting+in-Rule-1, in-Awaiting+in-Name-1, in-Awaiting+in-Other-1, in-Serving+in-Policy-1, in-Serving+in-Name-1, in-Serving+in-Other-1}
 
 pub returns-in-Awaiting-Policy : goal.returns-in-Awaiting-Policy
-returns-in-Awaiting-Policy c = silent _ _ (comes c.in-Awaiting-Policy.is-0 c.in-Awaiting-Policy.ensures)
-
-pub returns-in-Awaiting-Rule : goal.returns-in-Awaiting-Rule
-returns-in-Awaiting-Rule c = asks _ _ _ _ _ (awaits c.in-Awaiting-Rule.is-0 (policy_or 114 c.in-Awaiting-Rule.ensures)) c.question.ensures
-
-pub returns-in-Awaiting-Name : goal.returns-in-Awaiting-Name
-returns-in-Awaiting-Name c = asks _ _ _ _ _ (awaits c.in-Awaiting-Name.is-0 (policy_or 110 c.in-Awaiting-Name.ensures)) c.question-in-Awaiting-Name.ensures
-
-pub returns-in-Awaiting-Other : goal.returns-in-Awaiting-Other
-returns-in-Awaiting-Other c = asks _ _ _ _ _ (awaits c.in-Awaiting-Other.is-0 c.in-Awaiting-Other.ensures.0) c.question-in-Awaiting-Other.ensures
+returns-in-Awaiting-Policy c = silent _ _ (comes _ c.in-Awaiting-Policy.is-0 c.in-Awaiting-Policy.ensures)
 
 pub returns-in_ok-serve_rule-in-Serving-Rule : goal.returns-in_ok-serve_rule-in-Serving-Rule
 returns-in_ok-serve_rule-in-Serving-Rule c = passed_on (λ p h. adds c.in-Serving-Rule.is-0 c.in-Serving-Rule.ensures h) c.in_ok-serve_rule-in-Serving-Rule.ensures
 
-pub returns-in-Serving-Name : goal.returns-in-Serving-Name
-returns-in-Serving-Name c = asks _ _ _ _ _ (declines c.in-Serving-Name.is-0 (λ x e. omega (arith, two_kinds c.in-Serving-Name.ensures e))) c.question-in-Serving-Name.ensures
-
-pub returns-in-Serving-Policy : goal.returns-in-Serving-Policy
-returns-in-Serving-Policy c = asks _ _ _ _ _ (declines c.in-Serving-Policy.is-0 (λ x e. policy_or 114 e c.in-Serving-Policy.ensures)) c.question-in-Serving-Policy.ensures
-
-pub returns-in-Serving-Other : goal.returns-in-Serving-Other
-returns-in-Serving-Other c = asks _ _ _ _ _ (declines c.in-Serving-Other.is-0 c.in-Serving-Other.ensures.1) c.question-in-Serving-Other.ensures
+pub returns-in_ok-print_question-in-Awaiting-Rule : goal.returns-in_ok-print_question-in-Awaiting-Rule
+returns-in_ok-print_question-in-Awaiting-Rule c =
+    asks _ _ _ _ _ c.kind_of.ensures
+    (elim c.in-Awaiting-Rule-1.branch [
+      | in-Awaiting+in-Rule-1 w ↦ search (rules, awaiting_rule)
+      | in-Awaiting+in-Name-1 w ↦ search (rules, awaiting_name)
+      | in-Awaiting+in-Other-1 w ↦ search (rules, awaiting_other)
+      | in-Serving+in-Policy-1 w ↦ search (rules, serving_policy)
+      | in-Serving+in-Name-1 w ↦ search (rules, serving_name)
+      | in-Serving+in-Other-1 w ↦ search (rules, serving_other)
+    ])
+    c.in_ok-print_question-in-Awaiting-Rule.ensures

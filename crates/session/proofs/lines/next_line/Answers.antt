@@ -1,10 +1,12 @@
-use Rattle.std.proofs.Common.{sym, arith}
-use borrow.Author.Tests.{eqb-false}
+use Rattle.std.proofs.Common.{◌<◌, length, sym, arith}
+use Rattle.std.proofs.lemmas.Bool.{eqb-false}
 use Rattle.session.proofs.Splits.{line_ended, line_last}
 use Rattle.session.proofs.lines.next_line.Goals as goal
 
-pub returns-then-end-input : goal.returns-then-end-input
-returns-then-end-input c = line_ended _ _ (omega arith) c.line_end-end.ensures.before (c.line_end-end.ensures.found c.if-end-input.true)
+pub returns-in-Some : goal.returns-in-Some
+returns-in-Some c = line_ended _ _ c.in-Some.ensures
 
-pub returns-else-end-input : goal.returns-else-end-input
-returns-else-end-input c = line_last _ _ (omega (arith, eqb-false _ _ (sym c.if-is_empty.ensures))) (omega arith) c.line_end-end.ensures.before
+pub returns-in-None : goal.returns-in-None
+returns-in-None c =
+    let some : 0 < length c.args.input.now = omega (arith, eqb-false _ _ (sym c.if-is_empty.ensures)) in
+    (line_last _ some c.in-None.ensures, some)

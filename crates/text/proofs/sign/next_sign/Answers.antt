@@ -1,11 +1,7 @@
 use Rattle.std.proofs.Common.{◌≡◌, ◌-◌, ◌<◌, length, take, drop, refl, arith, length-drop, length-take, get_or-take, ltb-false, ltb-true}
 use Rattle.text.specs.Signs.{lex_open, lex_close, lex_bar, lex_star, lex_dot, lex_plain}
-use Rattle.text.proofs.Bytes.{rest_is, byte_signed, front_is, two_is, two_lex, five_lex, unsigned_empty, unsigned_end, unsigned_escape, unsigned_class}
+use Rattle.text.proofs.Bytes.{rest_is, byte_signed, front_is, two_is, two_lex, five_lex}
 use Rattle.text.proofs.sign.next_sign.Goals as goal
-use Rattle.text.proofs.sign.next_sign.Goals.{in_default-text-via-then-text-lt5, in_default-text-via-in-91-text+else-low-high, in_default-text-via-else-text-lt5+in-91+in-45+in_default-1, in_default-text-via-else-text-lt5+in-91+in_default-1, in_default-text-via-else-text-lt5+in_default-1}
-
-pub returns-in_default : goal.returns-in_default
-returns-in_default c = (refl, unsigned_empty _ (omega (arith, ltb-true, ltb-false)))
 
 pub returns-in-40 : goal.returns-in-40
 returns-in-40 c = record { lexed = byte_signed 40 _ (omega (arith, ltb-true, ltb-false)) c.in-40.is lex_open; borrows = tt }
@@ -33,17 +29,6 @@ returns-in-91-text c =
           (omega (arith, get_or-take 5 c.args.text.now 1 0 (omega arith), get_or-take 5 c.args.text.now 3 0 (omega arith)));
       borrows = (l, front_is 5 _);
     }
-
-pub returns-in_default-text : goal.returns-in_default-text
-returns-in_default-text c = (refl, unsigned_class _ c.in-91.is (λ l d f g. elim c.in_default-text.branch [ in_default-text-via-then-text-lt5 w ↦ omega (arith, ltb-true, ltb-false) | in_default-text-via-in-91-text+else-low-high w ↦ omega arith | in_default-text-via-else-text-lt5+in-91+in-45+in_default-1 w ↦ omega arith | in_default-text-via-else-text-lt5+in-91+in_default-1 w ↦ omega arith | in_default-text-via-else-text-lt5+in_default-1 w ↦ omega arith ]))
-
-pub returns-in-93 : goal.returns-in-93
-returns-in-93 c = (refl, unsigned_end _ c.in-93.is)
-
-pub returns-in-empty : goal.returns-in-empty
-returns-in-empty c =
-    let h : length (take (length c.args.text.now - 1) (drop 1 c.args.text.now)) < 1 = omega (arith, ltb-true, ltb-false) in
-    (refl, unsigned_escape _ c.in-92.is (omega (arith, simp (rest_is, length-drop) at h)))
 
 pub returns-in-len1-up-rest : goal.returns-in-len1-up-rest
 returns-in-len1-up-rest c =

@@ -1,0 +1,103 @@
+-- What a reader has read, from the steps that it took.
+use Rattle.std.proofs.Common.{◌≡◌, ◌⊎◌, inl, inr, ℕ, ◌+◌, List, ◌∷◌, ◌++◌, length, drop, set, sym, refl, ap, ◌∙◌, subst}
+use Rattle.rules.specs.declared.row.Row.{Row}
+use Rattle.rules.specs.Trees.{Tree, leaf, row, rows, size}
+use Rattle.text.specs.declared.readers.Reader.{Reader}
+use Rattle.text.specs.declared.sign.Sign.{Sign}
+use Rattle.text.specs.declared.sign.Sign.TheVariants.{Close, Bar, Star}
+use Rattle.text.specs.Signs.{Mark, open_mark, Lex, Signed, Stops}
+use Rattle.text.specs.Readers.{Alone, ReadText, ReadBranch, ReadPiece, ReadAtom}
+use Rattle.text.specs.Written.{Holds, Inserted, Reaches, Refuses, Starred}
+use Rattle.text.specs.Steps.{Goes, Moved, Takes}
+use Rattle.text.proofs.Combine.{text_last, text_more, text_refused_more, branch_last, branch_more, branch_refused_more, piece_read, stars_last, stars_next, atom_grouped, atom_refused_open, atom_refused_sign, as_sign, atom_refused_close, leaf_put}
+
+-- the same from a beginning that is given by equations
+pub moved_from : {R : List ℕ → Tree → List ℕ → Type 0} {text text2 : List ℕ} {at at2 count count2 to end : ℕ} {old old2 new : List Row} → text2 ≡ text → at2 ≡ at → count2 ≡ count → old2 ≡ old → Reaches R text2 at2 count2 to end old2 new → Reaches R text at count to end old new
+moved_from {R = R} {text = text} {text2 = text2} {at = at} {at2 = at2} {count = count} {count2 = count2} {to = to} {end = end} {old = old} {old2 = old2} {new = new} e f g h r =
+    subst (λ (w : List ℕ). Reaches R w at count to end old new) e
+    (subst (λ (n : ℕ). Reaches R text2 n count to end old new) f
+    (subst (λ (n : ℕ). Reaches R text2 at2 n to end old new) g
+    (subst (λ (w : List Row). Reaches R text2 at2 count2 to end w new) h r)))
+
+put_in : {old old2 new : List Row} {at end end2 : ℕ} {r : Row} → old2 ≡ old → end2 ≡ end → Inserted old2 at end2 r new → Inserted old at end r new
+put_in {old} {old2} {new} {at} {end} {end2} {r} e f i = subst (λ (w : List Row). Inserted w at end r new) e (subst (λ (n : ℕ). Inserted old2 at n r new) f i)
+
+here_in : {text text2 : List ℕ} {byte : ℕ} (at : ℕ) → text2 ≡ text → drop at text2 ≡ byte ∷ drop (at + 1) text2 → drop at text ≡ byte ∷ drop (at + 1) text
+here_in {byte = byte} at e h = subst (λ (w : List ℕ). drop at w ≡ byte ∷ drop (at + 1) w) e h
+
+-- a text: a branch, and what follows `|`
+pub text_goes : {old b t new : Reader} {mid : List Row} → Goes ReadBranch old b → Takes b t 124 → Inserted t.rows old.count t.count (row 2 0 0) mid → new.text.now ≡ t.text.now → Reaches ReadText t.text.now t.at (t.count + 1) new.at new.count mid new.rows → Goes ReadText old new
+text_goes {b = b} g k i e h = record {
+  text = e ∙ k.moved.text ∙ g.text;
+  reaches = text_more g.reaches (here_in b.at g.text k.here) (put_in k.moved.rows k.moved.count i)
+      (moved_from (k.moved.text ∙ g.text) k.at (ap (λ (c : ℕ). c + 1) k.moved.count) refl h);
+}
+
+pub text_stays : {old b t : Reader} → Goes ReadBranch old b → Takes b t 124 → Refuses ReadText (drop t.at t.text.now) → Refuses ReadText (drop old.at old.text.now)
+text_stays {b = b} {t = t} g k h =
+    text_refused_more g.reaches.reads (here_in b.at g.text k.here)
+    (subst (λ (w : List ℕ). Refuses ReadText (drop (b.at + 1) w)) (k.moved.text ∙ g.text) (subst (λ (n : ℕ). Refuses ReadText (drop n t.text.now)) k.at h))
+
+pub text_ends : {old b t : Reader} → Goes ReadBranch old b → (t ≡ b) × ((z : List ℕ) → drop b.at b.text.now ≡ 124 ∷ z → ⊥) → Goes ReadText old t
+text_ends {old} {b} g h =
+    subst (λ (r : Reader). Goes ReadText old r) (sym h.0) (record { text = g.text; reaches = text_last g.reaches (λ z e. h.1 z (ap (drop b.at) g.text ∙ e)) })
+
+-- a branch: a piece, and a branch that is not nothing
+pub branch_goes : {old p new : Reader} {mid : List Row} → Goes ReadPiece old p → (Stops (drop p.at p.text.now) → ⊥) → Inserted p.rows old.count p.count (row 3 0 0) mid → new.text.now ≡ p.text.now → Reaches ReadBranch p.text.now p.at (p.count + 1) new.at new.count mid new.rows → Goes ReadBranch old new
+branch_goes {p = p} g s i e h = record {
+  text = e ∙ g.text;
+  reaches = branch_more g.reaches (λ k. s (subst (λ (w : List ℕ). Stops (drop p.at w)) (sym g.text) k)) i (moved_from g.text refl refl refl h);
+}
+
+pub branch_stays : {old p : Reader} → Goes ReadPiece old p → (Stops (drop p.at p.text.now) → ⊥) → Refuses ReadBranch (drop p.at p.text.now) → Refuses ReadBranch (drop old.at old.text.now)
+branch_stays {p = p} g s h =
+    branch_refused_more g.reaches.reads (λ k. s (subst (λ (w : List ℕ). Stops (drop p.at w)) (sym g.text) k))
+    (subst (λ (w : List ℕ). Refuses ReadBranch (drop p.at w)) g.text h)
+
+pub branch_ends : {old p : Reader} → Goes ReadPiece old p → Stops (drop p.at p.text.now) → Goes ReadBranch old p
+branch_ends {p = p} g s = record { text = g.text; reaches = branch_last g.reaches (subst (λ (w : List ℕ). Stops (drop p.at w)) g.text s) }
+
+-- the stars behind a piece
+pub stars_go : {old t : Reader} {start to end : ℕ} {mid new : List Row} → Takes old t 42 → Inserted t.rows start t.count (row 4 0 0) mid → ((u : Tree) → t.count + 1 ≡ start + size u → Starred t.text.now start t.at to end mid new u) → (u : Tree) → old.count ≡ start + size u → Starred old.text.now start old.at to end old.rows new u
+stars_go {old} {t} {start} {to} {end} {mid} {new} k i g =
+    stars_next k.here (put_in k.moved.rows k.moved.count i)
+    (λ u c. subst (λ (w : List ℕ). Starred w start (old.at + 1) to end mid new u) k.moved.text (subst (λ (a : ℕ). Starred t.text.now start a to end mid new u) k.at (g u (ap (λ (c : ℕ). c + 1) k.moved.count ∙ c))))
+
+pub stars_end : {old new : Reader} {start : ℕ} → (new ≡ old) × ((z : List ℕ) → drop old.at old.text.now ≡ 42 ∷ z → ⊥) → (u : Tree) → old.count ≡ start + size u → Starred old.text.now start old.at new.at new.count old.rows new.rows u
+stars_end {old} {new} {start} h u e = subst (λ (r : Reader). Starred old.text.now start old.at r.at r.count old.rows r.rows u) (sym h.0) (stars_last h.1 u e)
+
+pub piece_goes : {old a new : Reader} → Goes ReadAtom old a → new.text.now ≡ a.text.now → ((u : Tree) → a.count ≡ old.count + size u → Starred a.text.now old.count a.at new.at new.count a.rows new.rows u) → Goes ReadPiece old new
+piece_goes {old} {a} {new} g e s = record {
+  text = e ∙ g.text;
+  reaches = piece_read g.reaches (λ u c. subst (λ (w : List ℕ). Starred w old.count a.at new.at new.count a.rows new.rows u) g.text (s u c));
+}
+
+-- an atom: its sign, and what follows `(`
+pub opened : {old s t new : Reader} → Moved old s → Lex (drop old.at old.text.now) open_mark (drop s.at old.text.now) → Goes ReadText s t → Takes t new 41 → Goes ReadAtom old new
+opened {old} {s} {t} {new} m l g k =
+    let r : Reaches ReadText old.text.now s.at old.count t.at t.count old.rows t.rows = moved_from m.text refl m.count m.rows g.reaches in
+    let a = atom_grouped l r (here_in t.at (g.text ∙ m.text) k.here) in
+    record {
+      text = k.moved.text ∙ g.text ∙ m.text;
+      reaches = record { tree = a.tree; reads = subst (λ (n : ℕ). ReadAtom (drop old.at old.text.now) a.tree (drop n old.text.now)) (sym k.at) a.reads; counted = k.moved.count ∙ a.counted; written = λ front e h. subst (λ (w : List Row). Holds w (front ++ rows a.tree)) (sym k.moved.rows) (a.written front e h) };
+    }
+
+pub opened_stays : {old s : Reader} → Moved old s → Lex (drop old.at old.text.now) open_mark (drop s.at old.text.now) → Refuses ReadText (drop s.at s.text.now) → Refuses ReadAtom (drop old.at old.text.now)
+opened_stays {old} {s} m l h = atom_refused_open l (subst (λ (w : List ℕ). Refuses ReadText (drop s.at w)) m.text h)
+
+pub not_closed : {old s t : Reader} → Moved old s → Lex (drop old.at old.text.now) open_mark (drop s.at old.text.now) → Goes ReadText s t → ((z : List ℕ) → drop t.at t.text.now ≡ 41 ∷ z → ⊥) → Refuses ReadAtom (drop old.at old.text.now)
+not_closed {old} {s} {t} m l g h =
+    let r : Reaches ReadText old.text.now s.at old.count t.at t.count old.rows t.rows = moved_from m.text refl m.count m.rows g.reaches in
+    atom_refused_close l r.reads (λ z e. h z (ap (drop t.at) (g.text ∙ m.text) ∙ e))
+
+-- a sign with which no atom begins
+pub not_begun : {i x : List ℕ} {s : Sign} → ((s ≡ Close) ⊎ ((s ≡ Bar) ⊎ (s ≡ Star))) → Signed s i x → Refuses ReadAtom i
+not_begun {i} {x} (inl e) h = atom_refused_sign (as_sign i x e h) refl
+not_begun {i} {x} (inr (inl e)) h = atom_refused_sign (as_sign i x e h) refl
+not_begun {i} {x} (inr (inr e)) h = atom_refused_sign (as_sign i x e h) refl
+
+pub leaf_goes : {old s new : Reader} {m : Mark} {lo hi : ℕ} → Moved old s → Lex (drop old.at old.text.now) m (drop s.at old.text.now) → Alone m (leaf lo hi) → length old.rows ≡ 64 → new.text.now ≡ s.text.now → new.at ≡ s.at → new.count ≡ s.count + 1 → new.rows ≡ set s.rows s.count (row 1 lo hi) → Goes ReadAtom old new
+leaf_goes {old} {s} {new} {lo = lo} {hi = hi} m l a long e f n w = record {
+  text = e ∙ m.text;
+  reaches = leaf_put l a long f (n ∙ ap (λ (c : ℕ). c + 1) m.count) (w ∙ ap (λ (v : List Row). set v s.count (row 1 lo hi)) m.rows ∙ ap (λ (c : ℕ). set old.rows c (row 1 lo hi)) m.count);
+}
