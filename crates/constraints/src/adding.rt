@@ -5,8 +5,7 @@ ghost use Rattle.constraints.specs.Served.{TextAdded};
 
 use policies::NamedPolicy;
 use rules::alphabet::{Bytes, Folding};
-use rules::row::EMPTY;
-use rules::{Denial, Row};
+use rules::{Denial, Kind, Row};
 use sheet::OpenSheet;
 use text::read;
 
@@ -16,9 +15,9 @@ pub(crate) fn add_text(
     text: &[u8],
 ) -> Result<usize, Denial>
     ensures answer { TextAdded (holding sheet.old) text.now (holding sheet.new) (numbered result) }
-    ensures policy { sheet.new.policy ≡ sheet.old.policy }
+    ensures policy { sheet.new.kept.policy ≡ sheet.old.kept.policy }
 {
-    let mut rows = [Row::inner(EMPTY); 64];
+    let mut rows = [Row::from(Kind::Empty); 64];
     let count = read(text, &mut rows)?;
     sheet.add(&rows[..count])
 }

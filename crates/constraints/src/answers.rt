@@ -23,7 +23,7 @@ pub type FileSheet = LockedSheet<Folding<Bytes>, NamedPolicy>;
 
 // A locked sheet that holds no rule.
 fn opened(heap: Global, policy: NamedPolicy) -> Result<FileSheet, AllocError>
-    ensures { IfOk result (λ s. (locked s ≡ []) × (s.policy ≡ policy)) }
+    ensures { IfOk result (λ s. (locked s ≡ []) × (s.kept.policy ≡ policy)) }
 {
     let sheet = OpenSheet::open(heap, Folding { inner: Bytes }, policy)?;
     Ok(sheet.lock())
@@ -31,7 +31,7 @@ fn opened(heap: Global, policy: NamedPolicy) -> Result<FileSheet, AllocError>
 
 // Adds the rule of the text, and prints nothing or the number of the denial.
 fn serve_rule(sheet: FileSheet, text: &[u8], out: &mut Vec<u8>) -> Result<FileSheet, AllocError>
-    ensures { MatchResult result (λ s. (bench : ℕ) → Appends (Answers bench Serving sheet.policy (locked sheet) (rule_line text.now) Serving s.policy (locked s)) out.old.items out.new.items) (λ _. out.new.items ≡ out.old.items) }
+    ensures { MatchResult result (λ s. (bench : ℕ) → Appends (Answers bench Serving sheet.kept.policy (locked sheet) (rule_line text.now) Serving s.kept.policy (locked s)) out.old.items out.new.items) (λ _. out.new.items ≡ out.old.items) }
 {
     let mut open = sheet.unlock();
     let added = add_text(&mut open, text);
@@ -51,7 +51,7 @@ pub fn serve_line(
     bench: &mut [u8],
     out: &mut Vec<u8>,
 ) -> Result<(State, FileSheet), AllocError>
-    ensures { PrintsBy result (λ s. Answers (length bench.old) state sheet.policy (locked sheet) line.now s.0 s.1.policy (locked s.1)) out.old.items out.new.items }
+    ensures { PrintsBy result (λ s. Answers (length bench.old) state sheet.kept.policy (locked sheet) line.now s.0 s.1.kept.policy (locked s.1)) out.old.items out.new.items }
 {
     match (state, kind_of(line)) {
         (State::Awaiting, Line::Policy(policy)) => {

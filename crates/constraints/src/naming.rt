@@ -21,7 +21,7 @@ fn serve_reading(
 ) -> Result<(), AllocError>
     requires short { length name.now ≤ 120 }
     requires lowest { Lowest (locked sheet.now) (folded_name name.now) place }
-    ensures { PrintsBy result (λ _. SaysAnswer (named_above sheet.now.policy) (locked sheet.now) (length bench.old) name.now) out.old.items out.new.items }
+    ensures { PrintsBy result (λ _. SaysAnswer (named_above sheet.now.kept.policy) (locked sheet.now) (length bench.old) name.now) out.old.items out.new.items }
 {
     let mut report = [None; 64];
     match sheet.spans(place, name, bench, &mut report) {
@@ -37,7 +37,7 @@ pub(crate) fn serve_name(
     bench: &mut [u8],
     out: &mut Vec<u8>,
 ) -> Result<(), AllocError>
-    ensures { PrintsBy result (λ _. SaysAnswer (named_above sheet.now.policy) (locked sheet.now) (length bench.old) name.now) out.old.items out.new.items }
+    ensures { PrintsBy result (λ _. SaysAnswer (named_above sheet.now.kept.policy) (locked sheet.now) (length bench.old) name.now) out.old.items out.new.items }
 {
     match sheet.govern(name) {
         Ok(place) => serve_reading(sheet, place, name, bench, out),

@@ -6,8 +6,7 @@ use crate::line::{Line, State, kind_of};
 pub use crate::lines::LIMIT;
 use crate::lines::served_lines;
 use crate::printing::{print_denial, print_question};
-use rules::Row;
-use rules::row::EMPTY;
+use rules::{Kind, Row};
 use std::alloc::{AllocError, Global};
 use text::read;
 
@@ -15,7 +14,7 @@ use text::read;
 fn serve_rule(text: &[u8], out: &mut Vec<u8>) -> Result<(), AllocError>
     ensures { PrintsBy result (λ _. RulePrints text.now) out.old.items out.new.items }
 {
-    let mut rows = [Row::inner(EMPTY); 64];
+    let mut rows = [Row::from(Kind::Empty); 64];
     match read(text, &mut rows) {
         Ok(_) => Ok(()),
         Err(denial) => print_denial(denial, out),

@@ -2,8 +2,7 @@ ghost use Rattle.std.specs.Prelude.{◌≡◌, ℕ, ◌+◌, ◌*◌, ◌≤◌,
 
 use crate::scratch::{insert, put};
 use crate::sign::{Sign, next_sign, stands_at, stops_at};
-use rules::row::{CHOICE, EMPTY, LEAF, SEQUENCE, STAR};
-use rules::{Denial, Row};
+use rules::{Denial, Kind, Row};
 
 // How far a text is read, and what it wrote: the bytes before `at`, and `count` rows, of which the first 64 are kept.
 #[derive(Drop)]
@@ -35,7 +34,7 @@ impl<'a> Reader<'a> {
             text,
             at: 0,
             count: 0,
-            rows: [Row::inner(EMPTY); 64],
+            rows: [Row::from(Kind::Empty); 64],
         }
     }
 
@@ -57,7 +56,7 @@ impl<'a> Reader<'a> {
         let start = self.count;
         self.branch()?;
         if self.take(b'|') {
-            insert(&mut self.rows, start, self.count, Row::inner(CHOICE));
+            insert(&mut self.rows, start, self.count, Row::from(Kind::Choice));
             self.count += 1;
             self.text()
         } else {
@@ -72,7 +71,7 @@ impl<'a> Reader<'a> {
         ensures { Reads ReadBranch self.old self.new result }
     {
         if stops_at(self.text, self.at) {
-            put(&mut self.rows, self.count, Row::inner(EMPTY));
+            put(&mut self.rows, self.count, Row::from(Kind::Empty));
             self.count += 1;
             return Ok(());
         }
@@ -81,7 +80,7 @@ impl<'a> Reader<'a> {
         if stops_at(self.text, self.at) {
             return Ok(());
         }
-        insert(&mut self.rows, start, self.count, Row::inner(SEQUENCE));
+        insert(&mut self.rows, start, self.count, Row::from(Kind::Sequence));
         self.count += 1;
         self.branch()
     }
@@ -103,7 +102,7 @@ impl<'a> Reader<'a> {
         ensures read { (t : Tree) → self.old.count ≡ start + size t → Starred self.old.text.now start self.old.at self.new.at self.new.count self.old.rows self.new.rows t }
     {
         if self.take(b'*') {
-            insert(&mut self.rows, start, self.count, Row::inner(STAR));
+            insert(&mut self.rows, start, self.count, Row::from(Kind::Star));
             self.count += 1;
             self.stars(start);
         }
@@ -142,7 +141,7 @@ impl<'a> Reader<'a> {
         put(
             &mut self.rows,
             self.count,
-            Row::new(LEAF, u32::from(low), u32::from(high)),
+            Row::leaf(u32::from(low), u32::from(high)),
         );
         self.count += 1;
     }

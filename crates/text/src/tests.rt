@@ -1,6 +1,5 @@
 use crate::reader::read;
 use rules::Row;
-use rules::row::{CHOICE, EMPTY, LEAF, SEQUENCE, STAR};
 use std::process::Abort;
 use std::test::Fail;
 
@@ -15,7 +14,7 @@ fn all_blank(rows: &[Row]) -> bool {
 }
 
 fn leaf(lo: u32, hi: u32) -> Row {
-    Row::new(LEAF, lo, hi)
+    Row::leaf(lo, hi)
 }
 
 fn inner(kind: u8) -> Row {

@@ -5,7 +5,7 @@ use Rattle.constraints.proofs.answers.serve_rule.Goals.{in-Err+in_ok-print_denia
 
 pub returns : goal.returns
 returns c bench =
-    let policy : c.lock-sheet.result.policy ≡ c.args.sheet.policy = c.lock-sheet.ensures.2 ∙ c.add_text-added.ensures.policy ∙ c.unlock-open.ensures.2 in
+    let policy : c.lock-sheet.result.kept.policy ≡ c.args.sheet.kept.policy = c.lock-sheet.ensures.2 ∙ c.add_text-added.ensures.policy ∙ c.unlock-open.ensures.2 in
     elim c.match-added.branch [
       | in-Err+in_ok-print_denial w ↦ record {
         printed = _;

@@ -35,7 +35,7 @@ pub atom-returns-in-Class : goal.atom-returns-in-Class
 atom-returns-in-Class t c = let s = c.in_ok-sign.ensures in let l = c.leaf-in-Class.ensures in leaf_goes s.0 (as_sign _ _ c.in-Class.is s.2) alone_one (omega arith) l.text l.at l.count l.rows
 
 pub branch-returns-then-stops_at : goal.branch-returns-then-stops_at
-branch-returns-then-stops_at t c = record { text = refl; reaches = empty_put _ c.inner.ensures (c.stops_at.ensures.yes c.if-stops_at.true) (omega arith) c.put.ensures }
+branch-returns-then-stops_at t c = record { text = refl; reaches = empty_put _ c.from.ensures (c.stops_at.ensures.yes c.if-stops_at.true) (omega arith) c.put.ensures }
 
 pub branch-returns-then-stops_at-2 : goal.branch-returns-then-stops_at-2
 branch-returns-then-stops_at-2 t c = branch_ends c.in_ok-piece.ensures (c.stops_at-2.ensures.yes c.if-stops_at-2.true)
@@ -51,7 +51,7 @@ branch-returns t c =
     let g = c.in_ok-piece.ensures in
     let s = c.stops_at-2.ensures.no c.if-stops_at-2.false in
     MatchResult-weaker c.branch-self.result c.branch-self.ensures
-    (λ _ h. branch_goes g s (inserted_as c.inner-2.ensures c.insert.ensures) h.text h.reaches)
+    (λ _ h. branch_goes g s (inserted_as c.from-2.ensures c.insert.ensures) h.text h.reaches)
     (λ d h. (h.0, branch_stays g s h.1))
 
 pub piece-returns : goal.piece-returns
@@ -68,7 +68,7 @@ text-returns-then-take t c =
     let g = c.in_ok-branch.ensures in
     let k = c.take.ensures.yes c.if-take.true in
     MatchResult-weaker c.text.result c.text.ensures
-    (λ _ h. text_goes g k (inserted_as c.inner.ensures c.insert.ensures) h.text h.reaches)
+    (λ _ h. text_goes g k (inserted_as c.from.ensures c.insert.ensures) h.text h.reaches)
     (λ d h. (h.0, text_stays g k h.1))
 
 pub text-returns-else-take : goal.text-returns-else-take

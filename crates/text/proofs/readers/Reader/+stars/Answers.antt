@@ -3,7 +3,7 @@ use Rattle.text.proofs.Steps.{stars_go, stars_end}
 use Rattle.text.proofs.readers.Reader.+stars.Goals as goal
 
 pub returns-then-take-clause-read : goal.returns-then-take-clause-read
-returns-then-take-clause-read t c = stars_go (c.take.ensures.yes c.if-take.true) (inserted_as c.inner.ensures c.insert.ensures) c.stars.ensures.read
+returns-then-take-clause-read t c = stars_go (c.take.ensures.yes c.if-take.true) (inserted_as c.from.ensures c.insert.ensures) c.stars.ensures.read
 
 pub returns-else-take-clause-read : goal.returns-else-take-clause-read
 returns-else-take-clause-read t c = stars_end (c.take.ensures.no c.if-take.false)
