@@ -1,60 +1,52 @@
-use rules::Row;
-use rules::row::STAR;
+ghost use Rattle.std.specs.Prelude.{◌≡◌, ◌≢◌, ℕ, ◌-◌, length, Option, MatchOption, Contains, option_map};
+ghost use Rattle.std.specs.Cmp.Lexicographic.{slice_cmp};
+ghost use Rattle.rules.specs.declared.row.Row.{Row};
+ghost use Rattle.cases.specs.Keys.{keys};
 
-// What is preferred: each node as long as can be, or only the stars, and a node that takes part before one that does not.
-#[derive(Clone, Copy)]
-pub enum Keys {
-    EveryNode,
-    StarsOnly,
+use crate::tree::{Entry, Reading};
+use rules::{Kind, Row};
+use std::cmp::Ordering;
+
+// The key of a node where each is to be as long as can be: nothing is below every length.
+pub fn every_node(_row: &Row, entry: &Entry) -> Option<usize>
+    ensures { result ≡ option_map (λ s. s.1 - s.0) entry.now }
+{
+    entry.map(|(start, end)| end.saturating_sub(start))
 }
 
-fn key(keys: Keys, kind: u8, entry: Option<(usize, usize)>) -> usize {
-    match entry {
-        None => 0,
-        Some((start, end)) => {
-            let long = end.saturating_sub(start).saturating_add(1);
-            match keys {
-                Keys::EveryNode => long,
-                Keys::StarsOnly => { if kind == STAR { long } else { 1 } }
-            }
-        }
+// The key of a node where stars are to be as long as can be, and any other node is only to take part.
+pub fn stars_only(row: &Row, entry: &Entry) -> Option<usize>
+    ensures star { row.now.kind ≡ 4 → result ≡ option_map (λ s. s.1 - s.0) entry.now }
+    ensures other { row.now.kind ≢ 4 → result ≡ option_map (λ s. 0) entry.now }
+{
+    match Kind::try_from(row.kind) {
+        Ok(Kind::Star) => every_node(row, entry),
+        _ => entry.map(|_| 0),
     }
 }
 
-// Whether the first node whose keys differ has the greater key in the first reading.
-fn above(
-    keys: Keys,
+// Compares two readings by a key of their nodes, at the first node whose keys differ.
+pub fn compare_by<K: Fn(&Row, &Entry) -> Option<usize>>(
+    key: K,
     rows: &[Row],
-    first: &[Option<(usize, usize)>],
-    second: &[Option<(usize, usize)>],
-) -> bool {
-    for at in 0..rows.len().min(first.len()).min(second.len()) {
-        let a = key(keys, rows[at].kind, first[at]);
-        let b = key(keys, rows[at].kind, second[at]);
-        if a != b {
-            return a > b;
-        }
-    }
-    false
+    first: &[Entry],
+    second: &[Entry],
+) -> Ordering
+    requires { K.IsAlwaysCallable key }
+    ensures { (f : Row → Option (ℕ × ℕ) → Option ℕ) → ((x : _) (y : _) (k : _) → K.post key x y k → k ≡ f x.now y.now) → result ≡ slice_cmp ⟦<Option<usize> as Ord>⟧.cmp (keys f rows.now first.now) (keys f rows.now second.now) }
+{
+    let first = rows.iter().zip(first).map(|(row, entry)| key(row, entry));
+    let second = rows.iter().zip(second).map(|(row, entry)| key(row, entry));
+    first.cmp(second)
 }
 
-// The place of the reading above all others, or below all others, among those listed.
-pub fn best(
-    keys: Keys,
-    opposite: bool,
-    rows: &[Row],
-    all: &[Vec<Option<(usize, usize)>>],
-) -> usize {
-    let mut best = 0;
-    for at in 1..all.len() {
-        let wins = if opposite {
-            above(keys, rows, &all[best], &all[at])
-        } else {
-            above(keys, rows, &all[at], &all[best])
-        };
-        if wins {
-            best = at;
-        }
-    }
-    best
+// The reading that no other is above, among those listed.
+pub fn best<'a, F: Fn(&[Entry], &[Entry]) -> Ordering>(
+    compare: F,
+    all: &'a [Reading],
+) -> Option<&'a Reading>
+    requires { F.IsAlwaysCallable compare }
+    ensures { MatchOption result (length all.now ≡ 0) (λ r. Contains all.now r.now) }
+{
+    all.iter().max_by(|a, b| compare(a, b))
 }

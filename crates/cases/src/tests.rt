@@ -1,96 +1,114 @@
 use crate::lister::readings;
-use crate::pick::{Keys, best};
+use crate::pick::{best, compare_by, every_node, stars_only};
+use crate::tree::{Entry, Reading, Tree};
 use matcher::{Matched, best_reading};
 use policies::{FirstLongest, Opposite, Policy, Posix};
 use rules::alphabet::Bytes;
 use rules::row::{CHOICE, EMPTY, LEAF, SEQUENCE, STAR};
 use rules::{Row, Rule};
 use std::alloc::Global;
+use std::array;
 use std::process::Abort;
 use std::test::Fail;
 
 // An entry that no reading has: what a report holds before.
-const BEFORE: Option<(usize, usize)> = Some((9, 8));
+const BEFORE: Entry = Some((9, 8));
 
 // The report begins with the reading, and is as it was behind it.
-fn shows(report: &[Option<(usize, usize)>], reading: &[Option<(usize, usize)>]) -> bool {
-    for at in 0..report.len() {
-        let want = if at < reading.len() {
-            reading[at]
-        } else {
-            BEFORE
-        };
-        if report[at] != want {
-            return false;
-        }
-    }
-    true
+fn shows(report: &[Entry], reading: &[Entry]) -> bool {
+    report
+        .strip_prefix(reading)
+        .is_some_and(|rest| rest.iter().all(|entry| *entry == BEFORE))
 }
 
-fn agrees<P: Policy>(
-    rt: &impl Abort,
+// The matcher's answer on bytes: the one call of it here.
+fn matched<P: Policy>(
     policy: &P,
-    keys: Keys,
-    opposite: bool,
     rule: &Rule,
     name: &[u8],
-    all: &[Vec<Option<(usize, usize)>>],
-) -> Result<(), Fail> {
-    let mut bench = [7; 512];
-    let mut report = [BEFORE; 16];
-    let matched = best_reading(&Bytes, policy, rule, name, &mut bench, &mut report);
-    match all.get(best(keys, opposite, rule.rows(), all)) {
-        Some(reading) => {
-            assert!(rt; matched == Matched::Found);
-            assert!(rt; shows(&report, reading));
-            Ok(())
-        }
-        None => {
-            assert!(rt; matched == Matched::NotRead);
-            assert!(rt; shows(&report, &[]));
-            Ok(())
+    bench: &mut [u8],
+    report: &mut [Entry],
+) -> Matched {
+    best_reading(&Bytes, policy, rule, name, bench, report)
+}
+
+// A name by a rule.
+#[derive(Clone, Copy)]
+struct Case<'a> {
+    rule: &'a Rule,
+    name: &'a [u8],
+}
+
+impl Case<'_> {
+    // The policy finds this reading, or none.
+    fn agrees<P: Policy>(&self, rt: &impl Abort, policy: &P, want: Option<&Reading>) {
+        let mut bench = [7; 512];
+        let mut report = [BEFORE; 16];
+        let answer = matched(policy, self.rule, self.name, &mut bench, &mut report);
+        match want {
+            Some(reading) => {
+                assert!(rt; answer == Matched::Found);
+                assert!(rt; shows(&report, reading));
+            }
+            None => {
+                assert!(rt; answer == Matched::NotRead);
+                assert!(rt; shows(&report, &[]));
+            }
         }
     }
 }
 
-// Each of four policies finds what the list of all readings gives.
-fn all_agree(rt: &impl Abort, heap: Global, rule: &Rule, name: &[u8]) -> Result<(), Fail> {
-    let all = readings(heap, rule, name)?;
-    agrees(rt, &Posix, Keys::EveryNode, false, rule, name, &all)?;
-    agrees(rt, &FirstLongest, Keys::StarsOnly, false, rule, name, &all)?;
-    let least = Opposite { policy: Posix };
-    agrees(rt, &least, Keys::EveryNode, true, rule, name, &all)?;
-    let least = Opposite {
-        policy: FirstLongest,
-    };
-    agrees(rt, &least, Keys::StarsOnly, true, rule, name, &all)
-}
-
-// Four letters by the digits of a number, 0 for a and 1 for b.
+// Names and rules go by numbers, so the loops over them count. Four letters by the digits of a number, 0 for a and 1 for b.
 fn letters(number: usize) -> [u8; 4] {
-    let mut name = [b'a'; 4];
-    let mut rest = number;
-    for at in 0..4 {
-        if rest % 2 == 1 {
-            name[at] = b'b';
-        }
-        rest = rest / 2;
-    }
-    name
+    array::from_fn(|at| if (number >> at) % 2 == 1 { b'b' } else { b'a' })
 }
 
-// The rule agrees on every name of a and b with so many symbols, at most four.
-fn names_agree(rt: &impl Abort, heap: Global, rule: &Rule, symbols: usize) -> Result<(), Fail> {
-    for number in 0..16 {
-        let name = letters(number);
-        all_agree(rt, heap, rule, &name[..symbols.min(4)])?;
+// A rule, and the tree that lists its readings.
+#[derive(Clone, Copy)]
+struct Subject<'a> {
+    rule: &'a Rule,
+    tree: &'a Tree,
+}
+
+impl Subject<'_> {
+    // Each of four policies finds what the list of all readings gives.
+    fn agrees_on(&self, rt: &impl Abort, heap: Global, name: &[u8]) -> Result<(), Fail> {
+        let all = self.tree.readings(heap, name)?;
+        let rows = self.rule.rows();
+        let case = Case {
+            rule: self.rule,
+            name,
+        };
+        let want = best(|a, b| compare_by(every_node, rows, a, b), &all);
+        case.agrees(rt, &Posix, want);
+        let want = best(|a, b| compare_by(stars_only, rows, a, b), &all);
+        case.agrees(rt, &FirstLongest, want);
+        let least = Opposite { policy: Posix };
+        let want = best(|a, b| compare_by(every_node, rows, b, a), &all);
+        case.agrees(rt, &least, want);
+        let least = Opposite {
+            policy: FirstLongest,
+        };
+        let want = best(|a, b| compare_by(stars_only, rows, b, a), &all);
+        case.agrees(rt, &least, want);
+        Ok(())
     }
-    Ok(())
+
+    // The rule agrees on every name of a and b with so many symbols, at most four.
+    fn agrees_at(&self, rt: &impl Abort, heap: Global, symbols: usize) -> Result<(), Fail> {
+        for number in 0..16 {
+            let name = letters(number);
+            self.agrees_on(rt, heap, &name[..symbols.min(4)])?;
+        }
+        Ok(())
+    }
 }
 
 fn rule_agrees(rt: &impl Abort, heap: Global, rule: &Rule) -> Result<(), Fail> {
+    let tree = Tree::of(heap, rule.rows())?.ok_or("no tree")?;
+    let subject = Subject { rule, tree: &tree };
     for symbols in 0..5 {
-        names_agree(rt, heap, rule, symbols)?;
+        subject.agrees_at(rt, heap, symbols)?;
     }
     Ok(())
 }
@@ -110,9 +128,9 @@ fn row_of(digit: usize) -> Row {
 fn rows_of(number: usize) -> [Row; 5] {
     let mut rows = [Row::inner(EMPTY); 5];
     let mut rest = number;
-    for at in 0..5 {
-        rows[at] = row_of(rest % 6);
-        rest = rest / 6;
+    for row in &mut rows {
+        *row = row_of(rest % 6);
+        rest /= 6;
     }
     rows
 }
@@ -121,9 +139,8 @@ fn rows_of(number: usize) -> [Row; 5] {
 fn rules_agree(rt: &impl Abort, heap: Global, count: usize, nodes: usize) -> Result<(), Fail> {
     for number in 0..count {
         let rows = rows_of(number);
-        match Rule::checked(&Bytes, &rows[..nodes.min(5)]) {
-            Ok(rule) => rule_agrees(rt, heap, &rule)?,
-            Err(_) => {}
+        if let Ok(rule) = Rule::checked(&Bytes, &rows[..nodes.min(5)]) {
+            rule_agrees(rt, heap, &rule)?;
         }
     }
     Ok(())
@@ -152,19 +169,14 @@ fn policies_differ(rt: HostRuntime) -> Result<(), Fail> {
         Row::new(LEAF, 98, 98),
         Row::inner(EMPTY),
     ];
-    match Rule::checked(&Bytes, &rows) {
-        Ok(rule) => {
-            rule_agrees(&rt, rt.alloc(), &rule)?;
-            let all = readings(rt.alloc(), &rule, b"ab")?;
-            assert!(rt; all.len() == 2);
-            assert!(rt;
-                best(Keys::EveryNode, false, &rows, &all)
-                    != best(Keys::EveryNode, true, &rows, &all)
-            );
-            Ok(())
-        }
-        Err(_) => Err(Fail::new("denied")),
-    }
+    let rule = Rule::checked(&Bytes, &rows)?;
+    rule_agrees(&rt, rt.alloc(), &rule)?;
+    let all = readings(rt.alloc(), &rule, b"ab")?;
+    assert_eq!(rt; all.len(), 2);
+    let first = best(|a, b| compare_by(every_node, &rows, a, b), &all);
+    let last = best(|a, b| compare_by(every_node, &rows, b, a), &all);
+    assert!(rt; first != last);
+    Ok(())
 }
 
 // How the name is matched with so many cells of bench and entries of report.
@@ -173,19 +185,15 @@ fn answer(rule: &Rule, name: &[u8], cells: usize, entries: usize) -> Matched {
     let mut report = [None; 4];
     let cells = &mut bench[..cells.min(64)];
     let entries = &mut report[..entries.min(4)];
-    best_reading(&Bytes, &Posix, rule, name, cells, entries)
+    matched(&Posix, rule, name, cells, entries)
 }
 
 #[test]
 fn what_does_not_fit(rt: HostRuntime) -> Result<(), Fail> {
-    match Rule::checked(&Bytes, &[Row::inner(STAR), Row::new(LEAF, 97, 97)]) {
-        Ok(rule) => {
-            assert!(rt; answer(&rule, b"a", 8, 2) == Matched::Found);
-            assert!(rt; answer(&rule, b"a", 7, 2) == Matched::Unfit);
-            assert!(rt; answer(&rule, b"a", 8, 1) == Matched::Unfit);
-            assert!(rt; answer(&rule, &[b'a'; 121], 64, 4) == Matched::Unfit);
-            Ok(())
-        }
-        Err(_) => Err(Fail::new("denied")),
-    }
+    let rule = Rule::checked(&Bytes, &[Row::inner(STAR), Row::new(LEAF, 97, 97)])?;
+    assert!(rt; answer(&rule, b"a", 8, 2) == Matched::Found);
+    assert!(rt; answer(&rule, b"a", 7, 2) == Matched::Unfit);
+    assert!(rt; answer(&rule, b"a", 8, 1) == Matched::Unfit);
+    assert!(rt; answer(&rule, &[b'a'; 121], 64, 4) == Matched::Unfit);
+    Ok(())
 }
