@@ -1,11 +1,11 @@
 -- What a reader has read, from the steps that it took.
-use Rattle.std.proofs.Common.{◌≡◌, ◌⊎◌, inl, inr, ℕ, ◌+◌, List, ◌∷◌, ◌++◌, length, drop, set, sym, refl, ap, ◌∙◌, subst}
+use Rattle.std.proofs.Common.{◌≡◌, ◌⊎◌, inl, inr, ℕ, ◌+◌, ◌<◌, List, ◌∷◌, ◌++◌, length, drop, set, sym, refl, ap, ◌∙◌, subst}
 use Rattle.rules.specs.declared.row.Row.{Row}
 use Rattle.rules.specs.Trees.{Tree, leaf, row, rows, size}
 use Rattle.text.specs.declared.readers.Reader.{Reader}
 use Rattle.text.specs.declared.sign.Sign.{Sign}
-use Rattle.text.specs.declared.sign.Sign.TheVariants.{Close, Bar, Star}
-use Rattle.text.specs.Signs.{Mark, open_mark, Lex, Signed, Stops}
+use Rattle.text.specs.declared.sign.Sign.TheVariants.{Open, Close, Bar, Star}
+use Rattle.text.specs.Signs.{open_mark, Lex, mark, Signed, Stops}
 use Rattle.text.specs.Readers.{Alone, ReadText, ReadBranch, ReadPiece, ReadAtom}
 use Rattle.text.specs.Written.{Holds, Inserted, Reaches, Refuses, Starred}
 use Rattle.text.specs.Steps.{Goes, Moved, Takes}
@@ -72,9 +72,15 @@ piece_goes {old} {a} {new} g e s = record {
   reaches = piece_read g.reaches (λ u c. subst (λ (w : List ℕ). Starred w old.count a.at new.at new.count a.rows new.rows u) g.text (s u c));
 }
 
+-- the next sign is read
+abbrev Sees : Sign → Reader → Reader → Type 0
+Sees v old s = Moved old s × (old.at < s.at) × Signed v (drop old.at old.text.now) (drop s.at old.text.now)
+
 -- an atom: its sign, and what follows `(`
-pub opened : {old s t new : Reader} → Moved old s → Lex (drop old.at old.text.now) open_mark (drop s.at old.text.now) → Goes ReadText s t → Takes t new 41 → Goes ReadAtom old new
-opened {old} {s} {t} {new} m l g k =
+pub opened : {sign : Sign} {old s t new : Reader} → sign ≡ Open → Sees sign old s → Goes ReadText s t → Takes t new 41 → Goes ReadAtom old new
+opened {sign} {old} {s} {t} {new} e h g k =
+    let m : Moved old s = h.0 in
+    let l : Lex (drop old.at old.text.now) open_mark (drop s.at old.text.now) = as_sign _ _ e h.2 in
     let r : Reaches ReadText old.text.now s.at old.count t.at t.count old.rows t.rows = moved_from m.text refl m.count m.rows g.reaches in
     let a = atom_grouped l r (here_in t.at (g.text ∙ m.text) k.here) in
     record {
@@ -82,13 +88,14 @@ opened {old} {s} {t} {new} m l g k =
       reaches = record { tree = a.tree; reads = subst (λ (n : ℕ). ReadAtom (drop old.at old.text.now) a.tree (drop n old.text.now)) (sym k.at) a.reads; counted = k.moved.count ∙ a.counted; written = λ front e h. subst (λ (w : List Row). Holds w (front ++ rows a.tree)) (sym k.moved.rows) (a.written front e h) };
     }
 
-pub opened_stays : {old s : Reader} → Moved old s → Lex (drop old.at old.text.now) open_mark (drop s.at old.text.now) → Refuses ReadText (drop s.at s.text.now) → Refuses ReadAtom (drop old.at old.text.now)
-opened_stays {old} {s} m l h = atom_refused_open l (subst (λ (w : List ℕ). Refuses ReadText (drop s.at w)) m.text h)
+pub opened_stays : {sign : Sign} {old s : Reader} → sign ≡ Open → Sees sign old s → Refuses ReadText (drop s.at s.text.now) → Refuses ReadAtom (drop old.at old.text.now)
+opened_stays {sign} {old} {s} e h r = atom_refused_open (as_sign _ _ e h.2) (subst (λ (w : List ℕ). Refuses ReadText (drop s.at w)) h.0.text r)
 
-pub not_closed : {old s t : Reader} → Moved old s → Lex (drop old.at old.text.now) open_mark (drop s.at old.text.now) → Goes ReadText s t → ((z : List ℕ) → drop t.at t.text.now ≡ 41 ∷ z → ⊥) → Refuses ReadAtom (drop old.at old.text.now)
-not_closed {old} {s} {t} m l g h =
+pub not_closed : {sign : Sign} {old s t : Reader} → sign ≡ Open → Sees sign old s → Goes ReadText s t → ((z : List ℕ) → drop t.at t.text.now ≡ 41 ∷ z → ⊥) → Refuses ReadAtom (drop old.at old.text.now)
+not_closed {sign} {old} {s} {t} e h g k =
+    let m : Moved old s = h.0 in
     let r : Reaches ReadText old.text.now s.at old.count t.at t.count old.rows t.rows = moved_from m.text refl m.count m.rows g.reaches in
-    atom_refused_close l r.reads (λ z e. h z (ap (drop t.at) (g.text ∙ m.text) ∙ e))
+    atom_refused_close (as_sign _ _ e h.2) r.reads (λ z f. k z (ap (drop t.at) (g.text ∙ m.text) ∙ f))
 
 -- a sign with which no atom begins
 pub not_begun : {i x : List ℕ} {s : Sign} → ((s ≡ Close) ⊎ ((s ≡ Bar) ⊎ (s ≡ Star))) → Signed s i x → Refuses ReadAtom i
@@ -96,8 +103,10 @@ not_begun {i} {x} (inl e) h = atom_refused_sign (as_sign i x e h) refl
 not_begun {i} {x} (inr (inl e)) h = atom_refused_sign (as_sign i x e h) refl
 not_begun {i} {x} (inr (inr e)) h = atom_refused_sign (as_sign i x e h) refl
 
-pub leaf_goes : {old s new : Reader} {m : Mark} {lo hi : ℕ} → Moved old s → Lex (drop old.at old.text.now) m (drop s.at old.text.now) → Alone m (leaf lo hi) → length old.rows ≡ 64 → new.text.now ≡ s.text.now → new.at ≡ s.at → new.count ≡ s.count + 1 → new.rows ≡ set s.rows s.count (row 1 lo hi) → Goes ReadAtom old new
-leaf_goes {old} {s} {new} {lo = lo} {hi = hi} m l a long e f n w = record {
-  text = e ∙ m.text;
-  reaches = leaf_put l a long f (n ∙ ap (λ (c : ℕ). c + 1) m.count) (w ∙ ap (λ (v : List Row). set v s.count (row 1 lo hi)) m.rows ∙ ap (λ (c : ℕ). set old.rows c (row 1 lo hi)) m.count);
-}
+pub leaf_goes : {sign v : Sign} {old s new : Reader} {lo hi : ℕ} → sign ≡ v → Sees sign old s → Alone (mark v) (leaf lo hi) → length old.rows ≡ 64 → new.text.now ≡ s.text.now → new.at ≡ s.at → new.count ≡ s.count + 1 → new.rows ≡ set s.rows s.count (row 1 lo hi) → Goes ReadAtom old new
+leaf_goes {old = old} {s = s} {lo = lo} {hi = hi} e h a long f g n w =
+    let m : Moved old s = h.0 in
+    record {
+      text = f ∙ m.text;
+      reaches = leaf_put (as_sign _ _ e h.2) a long g (n ∙ ap (λ (c : ℕ). c + 1) m.count) (w ∙ ap (λ (v : List Row). set v s.count (row 1 lo hi)) m.rows ∙ ap (λ (c : ℕ). set old.rows c (row 1 lo hi)) m.count);
+    }

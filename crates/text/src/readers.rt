@@ -116,18 +116,17 @@ impl<'a> Reader<'a> {
         match self.sign()? {
             Sign::Open => {
                 self.text()?;
-                if self.take(b')') {
-                    Ok(())
-                } else {
-                    Err(Denial::NotDerived)
+                if !self.take(b')') {
+                    return Err(Denial::NotDerived);
                 }
             }
-            Sign::Close | Sign::Bar | Sign::Star => Err(Denial::NotDerived),
-            Sign::Dot => Ok(self.leaf(0, 255)),
-            Sign::Plain(byte) => Ok(self.leaf(byte, byte)),
-            Sign::Escape(part) => Ok(self.leaf(part[1], part[1])),
-            Sign::Class(part) => Ok(self.leaf(part[1], part[3])),
+            Sign::Close | Sign::Bar | Sign::Star => return Err(Denial::NotDerived),
+            Sign::Dot => self.leaf(0, 255),
+            Sign::Plain(byte) => self.leaf(byte, byte),
+            Sign::Escape(part) => self.leaf(part[1], part[1]),
+            Sign::Class(part) => self.leaf(part[1], part[3]),
         }
+        Ok(())
     }
 
     // One leaf, whose sign is read.

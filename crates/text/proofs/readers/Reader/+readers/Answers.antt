@@ -1,7 +1,7 @@
 use Rattle.std.proofs.Common.{length, refl, ap, arith}
 use Rattle.std.proofs.lemmas.Result.{err_from_is_err_and, MatchResult-weaker}
 use Rattle.text.specs.Readers.{alone_dot, alone_one}
-use Rattle.text.proofs.Combine.{inserted_as, as_sign, empty_put}
+use Rattle.text.proofs.Combine.{inserted_as, empty_put}
 use Rattle.text.proofs.Room.{branch_reached, piece_reached}
 use Rattle.text.proofs.Steps.{not_begun, text_goes, text_stays, text_ends, branch_goes, branch_stays, branch_ends, piece_goes, opened, opened_stays, not_closed, leaf_goes}
 use Rattle.text.proofs.readers.Reader.+readers.Goals as goal
@@ -11,28 +11,28 @@ atom-returns-in_err-text-in-Open t c =
     let p = err_from_is_err_and c.from_residual-in_err-text-in-Open.result c.from_residual-in_err-text-in-Open.ensures.1 in
     let s = c.in_ok-sign.ensures in
     let h = c.in_err-text-in-Open.ensures in
-    rw (p.1, p.2) (h.0, opened_stays s.0 (as_sign _ _ c.in-Open.is s.2) h.1)
+    rw (p.1, p.2) (h.0, opened_stays c.in-Open.is s h.1)
 
-pub atom-returns-then-take : goal.atom-returns-then-take
-atom-returns-then-take t c = let s = c.in_ok-sign.ensures in opened s.0 (as_sign _ _ c.in-Open.is s.2) c.in_ok-text-in-Open.ensures (c.take.ensures.yes c.if-take.true)
+pub atom-returns-else-not-take : goal.atom-returns-else-not-take
+atom-returns-else-not-take t c = let s = c.in_ok-sign.ensures in opened c.in-Open.is s c.in_ok-text-in-Open.ensures (c.take.ensures.yes c.if-not-take.false)
 
-pub atom-returns-else-take : goal.atom-returns-else-take
-atom-returns-else-take t c = let s = c.in_ok-sign.ensures in (refl, not_closed s.0 (as_sign _ _ c.in-Open.is s.2) c.in_ok-text-in-Open.ensures (c.take.ensures.no c.if-take.false).1)
+pub atom-returns-then-not-take : goal.atom-returns-then-not-take
+atom-returns-then-not-take t c = let s = c.in_ok-sign.ensures in (refl, not_closed c.in-Open.is s c.in_ok-text-in-Open.ensures (c.take.ensures.no c.if-not-take.true).1)
 
 pub atom-returns-in-Close : goal.atom-returns-in-Close
 atom-returns-in-Close t c = (refl, not_begun c.in-Close.is c.in_ok-sign.ensures.2)
 
 pub atom-returns-in-Dot : goal.atom-returns-in-Dot
-atom-returns-in-Dot t c = let s = c.in_ok-sign.ensures in let l = c.leaf.ensures in leaf_goes s.0 (as_sign _ _ c.in-Dot.is s.2) alone_dot (omega arith) l.text l.at l.count l.rows
+atom-returns-in-Dot t c = let s = c.in_ok-sign.ensures in let l = c.leaf.ensures in leaf_goes c.in-Dot.is s alone_dot (omega arith) l.text l.at l.count l.rows
 
 pub atom-returns-in-Plain : goal.atom-returns-in-Plain
-atom-returns-in-Plain t c = let s = c.in_ok-sign.ensures in let l = c.leaf-in-Plain.ensures in leaf_goes s.0 (as_sign _ _ c.in-Plain.is s.2) alone_one (omega arith) l.text l.at l.count l.rows
+atom-returns-in-Plain t c = let s = c.in_ok-sign.ensures in let l = c.leaf-in-Plain.ensures in leaf_goes c.in-Plain.is s alone_one (omega arith) l.text l.at l.count l.rows
 
 pub atom-returns-in-Escape : goal.atom-returns-in-Escape
-atom-returns-in-Escape t c = let s = c.in_ok-sign.ensures in let l = c.leaf-in-Escape.ensures in leaf_goes s.0 (as_sign _ _ c.in-Escape.is s.2) alone_one (omega arith) l.text l.at l.count l.rows
+atom-returns-in-Escape t c = let s = c.in_ok-sign.ensures in let l = c.leaf-in-Escape.ensures in leaf_goes c.in-Escape.is s alone_one (omega arith) l.text l.at l.count l.rows
 
 pub atom-returns-in-Class : goal.atom-returns-in-Class
-atom-returns-in-Class t c = let s = c.in_ok-sign.ensures in let l = c.leaf-in-Class.ensures in leaf_goes s.0 (as_sign _ _ c.in-Class.is s.2) alone_one (omega arith) l.text l.at l.count l.rows
+atom-returns-in-Class t c = let s = c.in_ok-sign.ensures in let l = c.leaf-in-Class.ensures in leaf_goes c.in-Class.is s alone_one (omega arith) l.text l.at l.count l.rows
 
 pub branch-returns-then-stops_at : goal.branch-returns-then-stops_at
 branch-returns-then-stops_at t c = record { text = refl; reaches = empty_put _ c.from.ensures (c.stops_at.ensures.yes c.if-stops_at.true) (omega arith) c.put.ensures }
