@@ -26,7 +26,7 @@ pub fn stars_only(row: &Row, entry: &Entry) -> Option<usize>
 }
 
 // Compares two readings by a key of their nodes, at the first node whose keys differ.
-pub fn compare_by<K: Fn(&Row, &Entry) -> Option<usize>>(
+pub(crate) fn compare_by<K: Fn(&Row, &Entry) -> Option<usize>>(
     key: K,
     rows: &[Row],
     first: &[Entry],
@@ -41,7 +41,7 @@ pub fn compare_by<K: Fn(&Row, &Entry) -> Option<usize>>(
 }
 
 // The reading that no other is above, among those listed.
-pub fn best<'a, F: Fn(&[Entry], &[Entry]) -> Ordering>(
+pub(crate) fn best<'a, F: Fn(&[Entry], &[Entry]) -> Ordering>(
     compare: F,
     all: &'a [Reading],
 ) -> Option<&'a Reading>

@@ -1,11 +1,10 @@
 use crate::lister::readings;
 use crate::pick::{best, compare_by, every_node, stars_only};
 use crate::tree::{Entry, Reading, Tree};
-use matcher::{Matched, best_reading};
+use matcher::{Unmatched, best_reading};
 use policies::{FirstLongest, Opposite, Policy, Posix};
 use rules::alphabet::Bytes;
-use rules::row::{CHOICE, EMPTY, LEAF, SEQUENCE, STAR};
-use rules::{Row, Rule};
+use rules::{Kind, Row, Rule};
 use std::alloc::Global;
 use std::array;
 use std::process::Abort;
@@ -21,17 +20,6 @@ fn shows(report: &[Entry], reading: &[Entry]) -> bool {
         .is_some_and(|rest| rest.iter().all(|entry| *entry == BEFORE))
 }
 
-// The matcher's answer on bytes: the one call of it here.
-fn matched<P: Policy>(
-    policy: &P,
-    rule: &Rule,
-    name: &[u8],
-    bench: &mut [u8],
-    report: &mut [Entry],
-) -> Matched {
-    best_reading(&Bytes, policy, rule, name, bench, report)
-}
-
 // A name by a rule.
 #[derive(Clone, Copy)]
 struct Case<'a> {
@@ -44,14 +32,21 @@ impl Case<'_> {
     fn agrees<P: Policy>(&self, rt: &impl Abort, policy: &P, want: Option<&Reading>) {
         let mut bench = [7; 512];
         let mut report = [BEFORE; 16];
-        let answer = matched(policy, self.rule, self.name, &mut bench, &mut report);
+        let answer = best_reading(
+            &Bytes,
+            policy,
+            self.rule,
+            self.name,
+            &mut bench,
+            &mut report,
+        );
         match want {
             Some(reading) => {
-                assert!(rt; answer == Matched::Found);
+                assert_eq!(rt; answer, Ok(()));
                 assert!(rt; shows(&report, reading));
             }
             None => {
-                assert!(rt; answer == Matched::NotRead);
+                assert_eq!(rt; answer, Err(Unmatched::NotRead));
                 assert!(rt; shows(&report, &[]));
             }
         }
@@ -115,18 +110,18 @@ fn rule_agrees(rt: &impl Abort, heap: Global, rule: &Rule) -> Result<(), Fail> {
 
 fn row_of(digit: usize) -> Row {
     match digit {
-        0 => Row::inner(EMPTY),
-        1 => Row::new(LEAF, 97, 97),
-        2 => Row::new(LEAF, 98, 98),
-        3 => Row::inner(CHOICE),
-        4 => Row::inner(SEQUENCE),
-        _ => Row::inner(STAR),
+        0 => Row::from(Kind::Empty),
+        1 => Row::leaf(97, 97),
+        2 => Row::leaf(98, 98),
+        3 => Row::from(Kind::Choice),
+        4 => Row::from(Kind::Sequence),
+        _ => Row::from(Kind::Star),
     }
 }
 
 // Five rows by the digits of a number.
 fn rows_of(number: usize) -> [Row; 5] {
-    let mut rows = [Row::inner(EMPTY); 5];
+    let mut rows = [Row::from(Kind::Empty); 5];
     let mut rest = number;
     for row in &mut rows {
         *row = row_of(rest % 6);
@@ -159,15 +154,15 @@ fn every_small_rule(rt: HostRuntime) -> Result<(), Fail> {
 #[test]
 fn policies_differ(rt: HostRuntime) -> Result<(), Fail> {
     let rows = [
-        Row::inner(SEQUENCE),
-        Row::inner(CHOICE),
-        Row::new(LEAF, 97, 97),
-        Row::inner(SEQUENCE),
-        Row::new(LEAF, 97, 97),
-        Row::new(LEAF, 98, 98),
-        Row::inner(CHOICE),
-        Row::new(LEAF, 98, 98),
-        Row::inner(EMPTY),
+        Row::from(Kind::Sequence),
+        Row::from(Kind::Choice),
+        Row::leaf(97, 97),
+        Row::from(Kind::Sequence),
+        Row::leaf(97, 97),
+        Row::leaf(98, 98),
+        Row::from(Kind::Choice),
+        Row::leaf(98, 98),
+        Row::from(Kind::Empty),
     ];
     let rule = Rule::checked(&Bytes, &rows)?;
     rule_agrees(&rt, rt.alloc(), &rule)?;
@@ -180,20 +175,20 @@ fn policies_differ(rt: HostRuntime) -> Result<(), Fail> {
 }
 
 // How the name is matched with so many cells of bench and entries of report.
-fn answer(rule: &Rule, name: &[u8], cells: usize, entries: usize) -> Matched {
+fn answer(rule: &Rule, name: &[u8], cells: usize, entries: usize) -> Result<(), Unmatched> {
     let mut bench = [0; 64];
     let mut report = [None; 4];
     let cells = &mut bench[..cells.min(64)];
     let entries = &mut report[..entries.min(4)];
-    matched(&Posix, rule, name, cells, entries)
+    best_reading(&Bytes, &Posix, rule, name, cells, entries)
 }
 
 #[test]
 fn what_does_not_fit(rt: HostRuntime) -> Result<(), Fail> {
-    let rule = Rule::checked(&Bytes, &[Row::inner(STAR), Row::new(LEAF, 97, 97)])?;
-    assert!(rt; answer(&rule, b"a", 8, 2) == Matched::Found);
-    assert!(rt; answer(&rule, b"a", 7, 2) == Matched::Unfit);
-    assert!(rt; answer(&rule, b"a", 8, 1) == Matched::Unfit);
-    assert!(rt; answer(&rule, &[b'a'; 121], 64, 4) == Matched::Unfit);
+    let rule = Rule::checked(&Bytes, &[Row::from(Kind::Star), Row::leaf(97, 97)])?;
+    assert_eq!(rt; answer(&rule, b"a", 8, 2), Ok(()));
+    assert_eq!(rt; answer(&rule, b"a", 7, 2), Err(Unmatched::Unfit));
+    assert_eq!(rt; answer(&rule, b"a", 8, 1), Err(Unmatched::Unfit));
+    assert_eq!(rt; answer(&rule, &[b'a'; 121], 64, 4), Err(Unmatched::Unfit));
     Ok(())
 }
