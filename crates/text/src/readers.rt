@@ -6,6 +6,7 @@ use rules::row::{CHOICE, EMPTY, LEAF, SEQUENCE, STAR};
 use rules::{Denial, Row};
 
 // How far a text is read, and what it wrote: the bytes before `at`, and `count` rows, of which the first 64 are kept.
+// An array holds them, since this crate has fixed memory, and the count goes on past its end.
 #[derive(Drop)]
 pub(crate) struct Reader<'a> {
     text: &'a [u8],
