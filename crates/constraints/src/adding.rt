@@ -17,6 +17,7 @@ pub(crate) fn add_text(
     ensures answer { TextAdded (holding sheet.old) text.now (holding sheet.new) (numbered result) }
     ensures policy { sheet.new.kept.policy ≡ sheet.old.kept.policy }
 {
+    // A rule has 64 rows at most, so an array serves, and no memory is asked for.
     let mut rows = [Row::from(Kind::Empty); 64];
     let count = read(text, &mut rows)?;
     sheet.add(&rows[..count])

@@ -23,6 +23,7 @@ fn serve_reading(
     requires lowest { Lowest (locked sheet.now) (folded_name name.now) place }
     ensures { PrintsBy result (λ _. SaysAnswer (named_above sheet.now.kept.policy) (locked sheet.now) (length bench.old) name.now) out.old.items out.new.items }
 {
+    // An entry for each row of a rule, of which there are 64 at most.
     let mut report = [None; 64];
     match sheet.spans(place, name, bench, &mut report) {
         Ok(()) => print_reading(place, &report, out),

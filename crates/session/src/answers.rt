@@ -14,6 +14,7 @@ use text::read;
 fn serve_rule(text: &[u8], out: &mut Vec<u8>) -> Result<(), AllocError>
     ensures { PrintsBy result (λ _. RulePrints text.now) out.old.items out.new.items }
 {
+    // A rule has 64 rows at most, so an array serves, and no memory is asked for.
     let mut rows = [Row::from(Kind::Empty); 64];
     match read(text, &mut rows) {
         Ok(_) => Ok(()),

@@ -5,6 +5,7 @@ use crate::sign::{Sign, next_sign, stands_at, stops_at};
 use rules::{Denial, Kind, Row};
 
 // How far a text is read, and what it wrote: the bytes before `at`, and `count` rows, of which the first 64 are kept.
+// An array holds them, since this crate has fixed memory, and the count goes on past its end.
 #[derive(Drop)]
 pub(crate) struct Reader<'a> {
     text: &'a [u8],

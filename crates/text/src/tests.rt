@@ -1,5 +1,5 @@
 use crate::reader::read;
-use rules::Row;
+use rules::{Kind, Row};
 use std::process::Abort;
 use std::test::Fail;
 
@@ -11,14 +11,6 @@ const BLANK: Row = Row {
 
 fn all_blank(rows: &[Row]) -> bool {
     rows.iter().all(|row| *row == BLANK)
-}
-
-fn leaf(lo: u32, hi: u32) -> Row {
-    Row::leaf(lo, hi)
-}
-
-fn inner(kind: u8) -> Row {
-    Row::inner(kind)
 }
 
 // The text is read into these rows, and the rows behind them stay.
@@ -60,19 +52,27 @@ fn denies(rt: &impl Abort, text: &[u8], room: usize, number: u8) -> Result<(), F
 
 #[test]
 fn signs(rt: HostRuntime) -> Result<(), Fail> {
-    reads(&rt, b"", &[inner(EMPTY)])?;
-    reads(&rt, b"a", &[leaf(97, 97)])?;
-    reads(&rt, b"-", &[leaf(45, 45)])?;
-    reads(&rt, b"\x00", &[leaf(0, 0)])?;
-    reads(&rt, b"\xff", &[leaf(255, 255)])?;
-    reads(&rt, b".", &[leaf(0, 255)])?;
-    reads(&rt, b"\\*", &[leaf(42, 42)])?;
-    reads(&rt, b"\\\\", &[leaf(92, 92)])?;
-    reads(&rt, b"[0-9]", &[leaf(48, 57)])?;
-    reads(&rt, b"[a-a]", &[leaf(97, 97)])?;
-    reads(&rt, b"[--]]", &[leaf(45, 93)])?;
-    reads(&rt, b"()", &[inner(EMPTY)])?;
-    reads(&rt, b"|", &[inner(CHOICE), inner(EMPTY), inner(EMPTY)])
+    reads(&rt, b"", &[Row::from(Kind::Empty)])?;
+    reads(&rt, b"a", &[Row::leaf(97, 97)])?;
+    reads(&rt, b"-", &[Row::leaf(45, 45)])?;
+    reads(&rt, b"\x00", &[Row::leaf(0, 0)])?;
+    reads(&rt, b"\xff", &[Row::leaf(255, 255)])?;
+    reads(&rt, b".", &[Row::leaf(0, 255)])?;
+    reads(&rt, b"\\*", &[Row::leaf(42, 42)])?;
+    reads(&rt, b"\\\\", &[Row::leaf(92, 92)])?;
+    reads(&rt, b"[0-9]", &[Row::leaf(48, 57)])?;
+    reads(&rt, b"[a-a]", &[Row::leaf(97, 97)])?;
+    reads(&rt, b"[--]]", &[Row::leaf(45, 93)])?;
+    reads(&rt, b"()", &[Row::from(Kind::Empty)])?;
+    reads(
+        &rt,
+        b"|",
+        &[
+            Row::from(Kind::Choice),
+            Row::from(Kind::Empty),
+            Row::from(Kind::Empty),
+        ],
+    )
 }
 
 #[test]
@@ -81,44 +81,57 @@ fn nesting(rt: HostRuntime) -> Result<(), Fail> {
         &rt,
         b"a|b*c",
         &[
-            inner(CHOICE),
-            leaf(97, 97),
-            inner(SEQUENCE),
-            inner(STAR),
-            leaf(98, 98),
-            leaf(99, 99),
+            Row::from(Kind::Choice),
+            Row::leaf(97, 97),
+            Row::from(Kind::Sequence),
+            Row::from(Kind::Star),
+            Row::leaf(98, 98),
+            Row::leaf(99, 99),
         ],
     )?;
-    reads(&rt, b"a**", &[inner(STAR), inner(STAR), leaf(97, 97)])?;
+    reads(
+        &rt,
+        b"a**",
+        &[
+            Row::from(Kind::Star),
+            Row::from(Kind::Star),
+            Row::leaf(97, 97),
+        ],
+    )?;
     reads(
         &rt,
         b"(ab)*",
-        &[inner(STAR), inner(SEQUENCE), leaf(97, 97), leaf(98, 98)],
+        &[
+            Row::from(Kind::Star),
+            Row::from(Kind::Sequence),
+            Row::leaf(97, 97),
+            Row::leaf(98, 98),
+        ],
     )?;
     reads(
         &rt,
         b"a|b|c",
         &[
-            inner(CHOICE),
-            leaf(97, 97),
-            inner(CHOICE),
-            leaf(98, 98),
-            leaf(99, 99),
+            Row::from(Kind::Choice),
+            Row::leaf(97, 97),
+            Row::from(Kind::Choice),
+            Row::leaf(98, 98),
+            Row::leaf(99, 99),
         ],
     )?;
     reads(
         &rt,
         b"(a|ab)(b|)",
         &[
-            inner(SEQUENCE),
-            inner(CHOICE),
-            leaf(97, 97),
-            inner(SEQUENCE),
-            leaf(97, 97),
-            leaf(98, 98),
-            inner(CHOICE),
-            leaf(98, 98),
-            inner(EMPTY),
+            Row::from(Kind::Sequence),
+            Row::from(Kind::Choice),
+            Row::leaf(97, 97),
+            Row::from(Kind::Sequence),
+            Row::leaf(97, 97),
+            Row::leaf(98, 98),
+            Row::from(Kind::Choice),
+            Row::leaf(98, 98),
+            Row::from(Kind::Empty),
         ],
     )
 }
