@@ -3,7 +3,8 @@ use Rattle.std.proofs.Common.{ℕ, ◌<◌, ◌≤◌, List, length, ap, ◌∙�
 use mathlib.Core.Logic.{∥∥₁_elim}
 use native.Mathlib.Nat.{ℕ_set}
 use Rattle.rules.specs.declared.row.Row.{Row}
-use Rattle.rules.specs.RuleRows.{Ruled}
+use Rattle.rules.specs.declared.rule.Rule.{Rule}
+use Rattle.rules.specs.RuleRows.{Ruled, rule_rows}
 use Rattle.rules.proofs.OneTree.{ruled}
 use Rattle.rules.proofs.RowFacts.{length_rows}
 use Rattle.matcher.specs.declared.frame.Frame.{Frame}
@@ -23,10 +24,17 @@ pub record Framed (f : Frame) : Type 0 where
   pub sizes : Sized (frame_rows f) f.sizes
   pub few : length (frame_rows f) ≤ 64
 
+pub rule_ruled : (r : Rule) → Ruled (rule_rows r)
+rule_ruled r = ruled r.rows r.len r.few r.tree
+
+-- a rule has few rows
+pub rule_few : (r : Rule) → length (rule_rows r) ≤ 64
+rule_few r = let x = rule_ruled r in omega (arith, ap length x.of ∙ length_rows x.tree, x.few)
+
 pub framed : (f : Frame) → Framed f
 framed f =
-    let r = ruled f.rule.now.rows f.rule.now.len f.rule.now.few f.rule.now.tree in
-    record { tree = r; sizes = ∥∥₁_elim f.sized (sized_prop (frame_rows f) f.sizes) (λ z. z); few = omega (arith, ap length r.of ∙ length_rows r.tree, r.few) }
+    let r = rule_ruled f.rule.now in
+    record { tree = r; sizes = ∥∥₁_elim f.sized (sized_prop (frame_rows f) f.sizes) (λ z. z); few = rule_few f.rule.now }
 
 pub frame_pair : (f : Frame) (m : ℕ) → m < length (frame_rows f) → Paired (frame_kind f m) → PairRoom (frame_rows f) f.sizes m
 frame_pair f m l k = let r = framed f in pair_room (frame_rows f) f.sizes m r.tree r.sizes l k.low k.high

@@ -5,7 +5,8 @@ ghost use Rattle.matcher.specs.States.{BothCoded};
 
 use crate::frame::{Frame, Spot};
 
-// What a cell holds: nothing known, that its node has its stretch or lacks it, or the code of the best reading.
+// What a cell holds: nothing known, that its node has its stretch or lacks it, or the code of the best reading. A code stays a
+// byte, since the bench is bytes that a caller lends, and it is a part's number or a split's, as its node is a choice or a sequence.
 #[derive(Clone, Copy, PartialEq, Eq)]
 pub(crate) enum Cell {
     Unknown,

@@ -7,7 +7,8 @@ use rules::Rule;
 mod sizes;
 mod splits;
 
-// What a bench is laid out for: a rule, with the size of each node's tree, and a count of symbols.
+// What a bench is laid out for: a rule, with the size of each node's tree, and a count of symbols. The sizes are an array, since
+// the matcher takes no memory.
 #[derive(Clone, Copy)]
 pub(crate) struct Frame<'a> {
     pub(crate) rule: &'a Rule,

@@ -60,7 +60,8 @@ impl<'a, A: Alphabet, P: Policy> Search<'a, A, P> {
     }
 }
 
-// Finds the best reading of the name by the rule, and writes it at the front of the report. The bench is scratch: what it holds does not matter.
+// Finds the best reading of the name by the rule, and writes it at the front of the report. The bench is scratch: what it holds
+// does not matter. Each parameter is a caller's own, so no struct takes them together.
 pub fn best_reading<A: Alphabet, P: Policy>(
     alphabet: &A,
     policy: &P,

@@ -8,7 +8,7 @@ use crate::search::Search;
 use policies::Policy;
 use rules::Alphabet;
 
-// Room for two readings that are compared.
+// Room for two readings that are compared, in arrays, since the matcher takes no memory.
 #[derive(Drop)]
 pub(crate) struct Pad {
     pub(crate) best: [Option<(usize, usize)>; 64],

@@ -9,6 +9,7 @@ use crate::search::Search;
 use policies::Policy;
 use rules::{Alphabet, Kind};
 
+// Bench and pad stay two parameters, since `has` takes the bench alone.
 impl<'a, A: Alphabet, P: Policy> Search<'a, A, P> {
     // Finds the code of the best reading of a stretch that the node has.
     #[cycle(solving)]

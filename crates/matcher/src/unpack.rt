@@ -57,7 +57,8 @@ impl<'a> Frame<'a> {
         }
     }
 
-    // Writes the reading that the bench holds for the node on a stretch, where the node's own code is given.
+    // Writes the reading that the bench holds for the node on a stretch, where the node's own code is given. No spot: a node below
+    // a part that was not taken has no stretch.
     pub(crate) fn unpack(
         &self,
         bench: &[u8],

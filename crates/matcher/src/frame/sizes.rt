@@ -10,26 +10,23 @@ use super::Frame;
 use rules::{Kind, Row, Rule};
 
 // The kind of a rule's node.
-fn kind_at(rows: &[Row], node: usize) -> Kind
-    requires tree { Ruled rows.now }
-    requires inside { node < length rows.now }
-    ensures { kind_number result ≡ (slice_index_or rows.now node (Line 0 0 0)).kind }
+fn kind_at(rule: &Rule, node: usize) -> Kind
+    requires { node < length (rule_rows rule.now) }
+    ensures { kind_number result ≡ (slice_index_or (rule_rows rule.now) node (Line 0 0 0)).kind }
 {
-    match Kind::try_from(rows[node].kind) {
+    match Kind::try_from(rule.rows()[node].kind) {
         Ok(kind) => kind,
         Err(_) => unreachable(),
     }
 }
 
 // The size of the tree at a node, from the sizes of those behind it.
-fn size_at(rows: &[Row], sizes: &[u8], node: usize) -> u8
-    requires tree { Ruled rows.now }
-    requires few { length rows.now ≤ 64 }
-    requires inside { node < length rows.now }
-    requires behind { SizedFrom rows.now (node + 1) sizes.now }
-    ensures { (s : Tree) → Stands rows.now node s → result ≡ size s }
+fn size_at(rule: &Rule, sizes: &[u8], node: usize) -> u8
+    requires inside { node < length (rule_rows rule.now) }
+    requires behind { SizedFrom (rule_rows rule.now) (node + 1) sizes.now }
+    ensures { (s : Tree) → Stands (rule_rows rule.now) node s → result ≡ size s }
 {
-    match kind_at(rows, node) {
+    match kind_at(rule, node) {
         Kind::Empty => 1,
         Kind::Leaf => 1,
         Kind::Star => 1 + sizes[node + 1],
@@ -41,14 +38,13 @@ fn size_at(rows: &[Row], sizes: &[u8], node: usize) -> u8
 }
 
 // The size of each node's tree.
-fn sizes(rows: &[Row]) -> [u8; 64]
-    requires tree { Ruled rows.now }
-    requires few { length rows.now ≤ 64 }
-    ensures { Sized rows.now result }
+fn sizes(rule: &Rule) -> [u8; 64]
+    ensures { Sized (rule_rows rule.now) result }
 {
     let mut sizes = [0; 64];
-    for node in (0..rows.len()).rev() {
-        sizes[node] = size_at(rows, &sizes, node);
+    // Nodes go by their numbers, since a size comes from those that stand behind it.
+    for node in (0..rule.rows().len()).rev() {
+        sizes[node] = size_at(rule, &sizes, node);
     }
     sizes
 }
@@ -59,7 +55,7 @@ impl<'a> Frame<'a> {
         ensures rows { frame_rows result ≡ rule_rows rule.now }
         ensures symbols { result.symbols ≡ symbols }
     {
-        let sizes = sizes(rule.rows());
+        let sizes = sizes(rule);
         Frame {
             rule,
             sizes,
@@ -78,7 +74,7 @@ impl<'a> Frame<'a> {
         requires { node < length (frame_rows self.now) }
         ensures { kind_number result ≡ frame_kind self.now node }
     {
-        kind_at(self.rule.rows(), node)
+        kind_at(self.rule, node)
     }
 
     // The node of the second part of a choice or a sequence.

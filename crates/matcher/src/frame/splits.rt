@@ -7,7 +7,8 @@ use rules::Kind;
 use std::ops::Range;
 
 impl<'a> Frame<'a> {
-    // The splits of a stretch that two nodes can have: the one that a symbol or nothing leaves, or each.
+    // The splits of a stretch that two nodes can have: the one that a symbol or nothing leaves, or each. A split is a number, so loops
+    // over them count.
     pub(crate) fn splits(
         &self,
         first: usize,

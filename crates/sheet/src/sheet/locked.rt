@@ -21,7 +21,7 @@ impl<A, P> LockedSheet<A, P> {
         self.kept.rules.get(place).ok_or(Denial::NoSuchPlace)
     }
 
-    // The checks 7 to 10 of a spans, with a bench and a report of these lengths.
+    // The checks 7 to 10 of a spans, with a bench and a report of these lengths. The parameters here and below are the call's own.
     fn check_spans(
         &self,
         place: usize,

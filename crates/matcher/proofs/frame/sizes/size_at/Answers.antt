@@ -1,5 +1,7 @@
 use Rattle.std.proofs.Common.{◌≡◌, ℕ, ◌+◌, List, get_or, arith}
 use Rattle.rules.specs.Trees.{size}
+use Rattle.rules.specs.RuleRows.{rule_rows}
+use Rattle.matcher.proofs.Framed.{rule_ruled, rule_few}
 use Rattle.matcher.proofs.KindNumbers.{paired}
 use Rattle.matcher.proofs.Nodes.{found, small, as_pair, as_single}
 use Rattle.matcher.proofs.frame.sizes.size_at.Goals as goal
@@ -9,59 +11,59 @@ both_sizes table m a b e f = rw e f
 
 pub bounds-sizes-node : goal.bounds-sizes-node
 bounds-sizes-node c =
-    let f = found c.args.rows.now c.requires.tree c.args.node c.requires.inside in
-    let p = as_single c.args.rows.now c.args.sizes.now c.args.node c.requires.behind (omega (arith, c.in-Star.ensures)) f.tree f.stands in
-    omega (arith, p.within, p.some, c.requires.few, c.requires.behind.long)
+    let f = found (rule_rows c.args.rule.now) (rule_ruled c.args.rule.now) c.args.node c.requires.inside in
+    let p = as_single (rule_rows c.args.rule.now) c.args.sizes.now c.args.node c.requires.behind (omega (arith, c.in-Star.ensures)) f.tree f.stands in
+    omega (arith, p.within, p.some, rule_few c.args.rule.now, c.requires.behind.long)
 
 pub overflow_add-result-in-Star : goal.overflow_add-result-in-Star
 overflow_add-result-in-Star c =
-    let f = found c.args.rows.now c.requires.tree c.args.node c.requires.inside in
-    let p = as_single c.args.rows.now c.args.sizes.now c.args.node c.requires.behind (omega (arith, c.in-Star.ensures)) f.tree f.stands in
-    omega (arith, p.within, c.requires.few, p.part_size)
+    let f = found (rule_rows c.args.rule.now) (rule_ruled c.args.rule.now) c.args.node c.requires.inside in
+    let p = as_single (rule_rows c.args.rule.now) c.args.sizes.now c.args.node c.requires.behind (omega (arith, c.in-Star.ensures)) f.tree f.stands in
+    omega (arith, p.within, rule_few c.args.rule.now, p.part_size)
 
 pub bounds-sizes-node-in-Choice : goal.bounds-sizes-node-in-Choice
 bounds-sizes-node-in-Choice c =
-    let f = found c.args.rows.now c.requires.tree c.args.node c.requires.inside in
+    let f = found (rule_rows c.args.rule.now) (rule_ruled c.args.rule.now) c.args.node c.requires.inside in
     let k = paired _ _ c.kind_at.ensures c.in-Choice.is in
-    let p = as_pair c.args.rows.now c.args.sizes.now c.args.node c.requires.behind k.low k.high f.tree f.stands in
-    omega (arith, p.within, p.first_some, c.requires.few, c.requires.behind.long)
+    let p = as_pair (rule_rows c.args.rule.now) c.args.sizes.now c.args.node c.requires.behind k.low k.high f.tree f.stands in
+    omega (arith, p.within, p.first_some, rule_few c.args.rule.now, c.requires.behind.long)
 
 pub overflow_add-result-in-Choice : goal.overflow_add-result-in-Choice
 overflow_add-result-in-Choice c =
-    let f = found c.args.rows.now c.requires.tree c.args.node c.requires.inside in
+    let f = found (rule_rows c.args.rule.now) (rule_ruled c.args.rule.now) c.args.node c.requires.inside in
     let k = paired _ _ c.kind_at.ensures c.in-Choice.is in
-    let p = as_pair c.args.rows.now c.args.sizes.now c.args.node c.requires.behind k.low k.high f.tree f.stands in
-    omega (arith, p.within, c.requires.few, p.first_size)
+    let p = as_pair (rule_rows c.args.rule.now) c.args.sizes.now c.args.node c.requires.behind k.low k.high f.tree f.stands in
+    omega (arith, p.within, rule_few c.args.rule.now, p.first_size)
 
 pub bounds-sizes-node-in-Choice-2 : goal.bounds-sizes-node-in-Choice-2
 bounds-sizes-node-in-Choice-2 c =
-    let f = found c.args.rows.now c.requires.tree c.args.node c.requires.inside in
+    let f = found (rule_rows c.args.rule.now) (rule_ruled c.args.rule.now) c.args.node c.requires.inside in
     let k = paired _ _ c.kind_at.ensures c.in-Choice.is in
-    let p = as_pair c.args.rows.now c.args.sizes.now c.args.node c.requires.behind k.low k.high f.tree f.stands in
-    omega (arith, p.within, p.second_some, p.first_size, c.requires.few, c.requires.behind.long)
+    let p = as_pair (rule_rows c.args.rule.now) c.args.sizes.now c.args.node c.requires.behind k.low k.high f.tree f.stands in
+    omega (arith, p.within, p.second_some, p.first_size, rule_few c.args.rule.now, c.requires.behind.long)
 
 pub overflow_add-result-in-Choice-4 : goal.overflow_add-result-in-Choice-4
 overflow_add-result-in-Choice-4 c =
-    let f = found c.args.rows.now c.requires.tree c.args.node c.requires.inside in
+    let f = found (rule_rows c.args.rule.now) (rule_ruled c.args.rule.now) c.args.node c.requires.inside in
     let k = paired _ _ c.kind_at.ensures c.in-Choice.is in
-    let p = as_pair c.args.rows.now c.args.sizes.now c.args.node c.requires.behind k.low k.high f.tree f.stands in
+    let p = as_pair (rule_rows c.args.rule.now) c.args.sizes.now c.args.node c.requires.behind k.low k.high f.tree f.stands in
     let e = both_sizes c.args.sizes.now c.args.node (size p.first) (size p.second) p.first_size p.second_size in
-    omega (arith, p.within, p.first_size, c.requires.few)
+    omega (arith, p.within, p.first_size, rule_few c.args.rule.now)
 
 pub returns-in-Empty : goal.returns-in-Empty
-returns-in-Empty c = small c.args.rows.now c.args.node (omega (arith, c.in-Empty.ensures))
+returns-in-Empty c = small (rule_rows c.args.rule.now) c.args.node (omega (arith, c.in-Empty.ensures))
 
 pub returns-in-Leaf : goal.returns-in-Leaf
-returns-in-Leaf c = small c.args.rows.now c.args.node (omega (arith, c.in-Leaf.ensures))
+returns-in-Leaf c = small (rule_rows c.args.rule.now) c.args.node (omega (arith, c.in-Leaf.ensures))
 
 pub returns-in-Star : goal.returns-in-Star
 returns-in-Star c s h =
-    let p = as_single c.args.rows.now c.args.sizes.now c.args.node c.requires.behind (omega (arith, c.in-Star.ensures)) s h in
+    let p = as_single (rule_rows c.args.rule.now) c.args.sizes.now c.args.node c.requires.behind (omega (arith, c.in-Star.ensures)) s h in
     omega (arith, p.part_size, p.whole)
 
 pub returns-in-Choice : goal.returns-in-Choice
 returns-in-Choice c s h =
     let k = paired _ _ c.kind_at.ensures c.in-Choice.is in
-    let p = as_pair c.args.rows.now c.args.sizes.now c.args.node c.requires.behind k.low k.high s h in
+    let p = as_pair (rule_rows c.args.rule.now) c.args.sizes.now c.args.node c.requires.behind k.low k.high s h in
     let e = both_sizes c.args.sizes.now c.args.node (size p.first) (size p.second) p.first_size p.second_size in
     omega (arith, p.first_size, p.whole)
