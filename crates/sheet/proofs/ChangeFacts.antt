@@ -14,17 +14,6 @@ many_held hs n e = length-map hs held_rows ∙ sym e
 
 -- what an add answers and leaves, from the check that it meets
 module _ (admitted : ℕ → ℕ → Bool) (rules : Rules) (rs : List Row) (m : Option ℕ) (met : add_met admitted rules rs ≡ m) where
-  pub answer_by : (n : ℕ) → n ≡ length rules → unless m n ≡ add_answer admitted rules rs
-  answer_by n e = ap (λ (k : ℕ). unless m k) e ∙ ap (λ (o : Option ℕ). unless o (length rules)) (sym met)
-
-  pub after_by : (new : Rules) → new ≡ changed m (rules ++ rs ∷ []) rules → new ≡ added admitted rules rs
-  after_by new e = e ∙ ap (λ (o : Option ℕ). changed o (rules ++ rs ∷ []) rules) (sym met)
-
-pub full : (admitted : ℕ → ℕ → Bool) (rules : Rules) (rs : List Row) → 16 ≤ length rules → add_met admitted rules rs ≡ Some 1
-full admitted rules rs h = cond-true _ _ _ (le-leb 16 (length rules) h)
-
-pub not_full : (admitted : ℕ → ℕ → Bool) (rules : Rules) (rs : List Row) → length rules < 16 → (m : Option ℕ) → checks admitted rs ≡ m → add_met admitted rules rs ≡ m
-not_full admitted rules rs h m e = cond-false _ _ _ (lt-leb 16 (length rules) h) ∙ e
 
 -- one rule more
 pub one_more : (hs : List Held) (h : Held) (new : List Held) (rs : List Row) → new ≡ hs ++ h ∷ [] → held_rows h ≡ rs → map held_rows new ≡ map held_rows hs ++ rs ∷ []

@@ -41,10 +41,6 @@ first_of m k n e = ap (λ (o : Option ℕ). first_met o k) e
 pub second_of : (m k o : Option ℕ) → m ≡ None → k ≡ o → first_met m k ≡ o
 second_of m k o e f = ap (λ (x : Option ℕ). first_met x k) e ∙ f
 
--- the rule at a place
-pub at_held : (hs : List Held) (k : ℕ) (h : Held) → k < length hs → h ≡ get_or hs k h → held_rows h ≡ at (map held_rows hs) k
-at_held hs k h less e = ap held_rows e ∙ sym (get_or-map held_rows hs k h [] less)
-
 pub held_ruled : (h : Held) → Ruled (held_rows h)
 held_ruled h = ruled h.rule.rows h.rule.len h.rule.few h.rule.tree
 

@@ -18,13 +18,6 @@ use Rattle.sheet.specs.Changes.{Rules, place_met}
 use Rattle.sheet.specs.Questions.{at, Read, name_met, bench_met, room_met, needed, spans_met, Reported, Spanned, SpansAnswer}
 use Rattle.sheet.proofs.QuestionFacts.{first_of, second_of, seen_long}
 
--- which check is met first
-pub place_first : (rules : Rules) (place symbols bench report k : ℕ) → place_met rules place ≡ Some k → spans_met rules place symbols bench report ≡ Some k
-place_first rules place symbols bench report k e = first_of (place_met rules place) _ k e
-
-pub name_first : (rules : Rules) (place symbols bench report k : ℕ) → place_met rules place ≡ None → name_met symbols ≡ Some k → spans_met rules place symbols bench report ≡ Some k
-name_first rules place symbols bench report k held e = second_of (place_met rules place) _ (Some k) held (first_of (name_met symbols) _ k e)
-
 module _ (rules : Rules) (place symbols bench report nodes : ℕ) (held : place_met rules place ≡ None) (nodes-are : nodes ≡ length (at rules place)) where
   pub bench_first : (k : ℕ) → name_met symbols ≡ None → bench_met nodes symbols bench ≡ Some k → spans_met rules place symbols bench report ≡ Some k
   bench_first k s e =

@@ -13,10 +13,6 @@ no_some x e = let z : ◌≡◌ {A = ℕ} 0 1 = cc in omega arith
 some_same : {X : Type 0} {x y : X} → Some x ≡ Some y → x ≡ y
 some_same e = cc
 
--- the calls from the i-th on: that one, and those behind it
-pub on_from : {S : Type 0} (cs : List (Made S)) (i : ℕ) (c : Made S) → i < length cs → c ≡ get_or cs i c → drop i cs ≡ c ∷ drop (i + 1) cs
-on_from cs i c h e = drop_more cs i c h ∙ ap (λ (x : Made _). x ∷ drop (i + 1) cs) (sym e)
-
 drop_one : {X : Type 0} (l : List X) (i : ℕ) → drop 1 (drop i l) ≡ drop (i + 1) l
 drop_one l i = drop-drop 1 i l
 
@@ -61,9 +57,6 @@ module _ {A P S : Type 0} (admitted : A → ℕ → ℕ → Bool) (start here : 
   none_left : map meant (drop i cs) ≡ []
   none_left = ap (map meant) (drop_all i cs off)
 
-  pub shut : not (is_open here) ≡ true
-  shut = sym (ap (leads_locked (is_open here)) none_left) ∙ so.allowed
-
   pub ended : rules_in here ≡ held_from (admitted (alphabet_in start)) (rules_in start) (map meant cs)
   ended = sym (ap (held_from (admitted (alphabet_in here)) (rules_in here)) none_left) ∙ so.rules
 
@@ -78,12 +71,3 @@ module _ {S : Type 0} (cs : List (Made S)) (i : ℕ) (o whole : Bool) (same : le
         (λ t. ap (λ (b : Bool). leads_locked b (map meant (drop (i + 1) cs))) (some_same (e ∙ cond-true _ _ _ t)) ∙ sym (ap (λ (b : Bool). b && leads_locked (open_then o (meant c)) (map meant (drop (i + 1) cs))) t) ∙ turn)
         (λ f. absurd (no_some next (e ∙ cond-false _ _ _ f)))
         (cases_Bool (allows o (meant c)))
-
-    pub refused : None ≡ cond (allows o (meant c)) (Some (open_then o (meant c))) None → false ≡ whole
-    refused e = ⊎_elim
-        (λ t. absurd (no_some (open_then o (meant c)) (sym (e ∙ cond-true _ _ _ t))))
-        (λ f. sym (ap (λ (b : Bool). b && leads_locked (open_then o (meant c)) (map meant (drop (i + 1) cs))) f) ∙ turn)
-        (cases_Bool (allows o (meant c)))
-
-  pub stopped : length cs ≤ i → not o ≡ whole
-  stopped h = sym (ap (λ (l : List (Made S)). leads_locked o (map meant l)) (drop_all i cs h)) ∙ same
