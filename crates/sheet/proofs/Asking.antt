@@ -1,9 +1,8 @@
 -- A question's answer, where what it lends is given by equations.
-use Rattle.std.proofs.Common.{◌≡◌, ℕ, Bool, List, ◌++◌, length, take, drop, sym, ap, ◌∙◌, subst}
-use Rattle.std.proofs.lemmas.List.{take_at}
+use Rattle.std.proofs.Common.{◌≡◌, ℕ, Bool, subst}
 use Rattle.policies.specs.Orders.{Order}
 use Rattle.sheet.specs.Changes.{Rules}
-use Rattle.sheet.specs.Histories.{Question, spans}
+use Rattle.sheet.specs.Histories.{Question}
 use Rattle.sheet.specs.Law.{Told, Answered}
 
 module _ {S : Type 0} (holds : ℕ → ℕ → S → Bool) (above : Order) (rules : Rules) where

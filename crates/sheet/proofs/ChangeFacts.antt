@@ -1,19 +1,15 @@
 -- Adds and drops, by the rules held.
-use Rattle.std.proofs.Common.{◌≡◌, ℕ, ◌+◌, ◌<◌, ◌≤◌, Bool, List, [], ◌∷◌, ◌++◌, map, length, take, drop, Some, None, Option, sym, ap, ◌∙◌}
+use Rattle.std.proofs.Common.{◌≡◌, ℕ, ◌+◌, ◌<◌, ◌≤◌, List, [], ◌∷◌, ◌++◌, map, length, take, drop, Some, None, Option, sym, ap, ◌∙◌}
 use Rattle.std.proofs.lemmas.List.{map-append, take-map, drop-map, length-map}
-use Rattle.std.proofs.lemmas.Bool.{lt-ltb, le-ltb, le-leb, lt-leb, cond-true, cond-false}
+use Rattle.std.proofs.lemmas.Bool.{lt-ltb, le-ltb, cond-true, cond-false}
 use Rattle.rules.specs.declared.row.Row.{Row}
-use Rattle.rules.specs.Checks.{checks}
 use Rattle.sheet.specs.declared.held.Held.{Held}
-use Rattle.sheet.specs.Changes.{Rules, unless, changed, add_met, add_answer, added, place_met, drop_answer, dropped}
+use Rattle.sheet.specs.Changes.{Rules, unless, changed, place_met, drop_answer, dropped}
 use Rattle.sheet.specs.Sheets.{held_rows}
 
 -- as many rules as are kept
 pub many_held : (hs : List Held) (n : ℕ) → n ≡ length hs → length (map held_rows hs) ≡ n
 many_held hs n e = length-map hs held_rows ∙ sym e
-
--- what an add answers and leaves, from the check that it meets
-module _ (admitted : ℕ → ℕ → Bool) (rules : Rules) (rs : List Row) (m : Option ℕ) (met : add_met admitted rules rs ≡ m) where
 
 -- one rule more
 pub one_more : (hs : List Held) (h : Held) (new : List Held) (rs : List Row) → new ≡ hs ++ h ∷ [] → held_rows h ≡ rs → map held_rows new ≡ map held_rows hs ++ rs ∷ []

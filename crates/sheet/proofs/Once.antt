@@ -36,6 +36,16 @@ optional d (Some x) (Some y) = elim (d x y) [ yes e ↦ yes (ap Some e) | no f �
 readings_told : Discrete Reading
 readings_told = List-discrete (optional (×_discrete ℕ_discrete ℕ_discrete))
 
+-- the best readings of names that are seen alike, under orders that agree on them
+best_once : (above rival : Order) → Decided above → (t : Tree) → size t ≤ 64 → (w v : List Sight) → Pairs (Same t) w v → ((x y : Reading) → ReadsWhole w t x → ReadsWhole w t y → above (rows t) 0 x y ≡ rival (rows t) 0 x y) → (x y : Reading) → Best above t w x → Best rival t v y → length w ≡ length v → x ≡ y
+best_once above rival laws t few w v p rank x y b c long =
+    let also : ReadsWhole w t y = subst (λ (n : ℕ). Reads w t 0 n y) (sym long) (reads_alike c.reads (turned t p)) in
+    let there : ReadsWhole v t x = subst (λ (n : ℕ). Reads v t 0 n x) long (reads_alike b.reads p) in
+    elim (readings_told x y) [
+      | yes e ↦ e
+      | no f ↦ absurd (laws.not_both t few 0 t here w 0 (length w) x y b.reads also (b.outranks y also (λ e. f (sym e))) (rank y x also b.reads ∙ c.outranks x there f))
+    ]
+
 module _ {S : Type 0} (one other : ℕ → ℕ → S → Bool) (rules : Rules) (hold : HoldAlike one other rules) (name : List S) where
   long : length (seen one name) ≡ length (seen other name)
   long = seen_long one name ∙ sym (seen_long other name)
@@ -73,6 +83,13 @@ module _ {S : Type 0} (one other : ℕ → ℕ → S → Bool) (rules : Rules) (
 
     best_read : (o : Order) (w : List Sight) (x : Reading) → BestBy o (at rules place) w x → Read (at rules place) w
     best_read o w x b = (b.0, b.1, (x, b.2.reads))
+
+    spans_once : (m : Option ℕ) (a b : Told) → (m ≡ None → place < length rules) → (m ≡ None → Ruled (at rules place)) → SpansTold m above (at rules place) (seen one name) a → SpansTold m rival (at rules place) (seen other name) b → a ≡ b
+    spans_once (Some n) a b h r x y = x ∙ sym y
+    spans_once None a b h r (inl x) (inl y) = x.2 ∙ ap (λ (z : Reading). spans_told (Ok z)) (best_same (h refl) (r refl) x.0 y.0 x.1 y.1) ∙ sym y.2
+    spans_once None a b h r (inl x) (inr y) = absurd (y.0 (read_on place (h refl) (best_read above (seen one name) x.0 x.1)))
+    spans_once None a b h r (inr x) (inl y) = absurd (x.0 (read_back place (h refl) (best_read rival (seen other name) y.0 y.1)))
+    spans_once None a b h r (inr x) (inr y) = x.1 ∙ sym y.1
 
 sets_once : (m : Option ℕ) (rs : List Row) (a b : Told) → SetsTold m rs a → SetsTold m rs b → a ≡ b
 sets_once (Some n) rs a b x y = x ∙ sym y

@@ -1,7 +1,7 @@
 -- The checks of the questions, and the rule at a place.
-use Rattle.std.proofs.Common.{◌≡◌, ℕ, ◌+◌, ◌<◌, Bool, true, false, ◌↔◌, List, [], ◌∷◌, ◌++◌, map, length, get_or, take, drop, Some, None, Ok, Err, Option, Result, sym, refl, ap, ◌∙◌, subst, arith}
+use Rattle.std.proofs.Common.{◌≡◌, ℕ, ◌+◌, Bool, true, false, ◌↔◌, List, [], ◌∷◌, ◌++◌, length, take, drop, Some, None, Ok, Err, Option, Result, sym, refl, ap, ◌∙◌, subst, arith}
 use borrow.Author.Tests.{clash}
-use Rattle.std.proofs.lemmas.List.{get_or-map, length-map}
+use Rattle.std.proofs.lemmas.List.{length-map}
 use Rattle.rules.specs.declared.row.Row.{Row}
 use Rattle.rules.specs.declared.denial.Denial.{Denial}
 use Rattle.rules.specs.Trees.{Tree, empty, leaf, choice, sequence, star, rows, Of, leaves}

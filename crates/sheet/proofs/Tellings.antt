@@ -65,6 +65,38 @@ module _ (above : Order) (derives : Relation) (prefers : Prefers above derives) 
   derived_read : (x : Reading) → ((t : Tree) × Of rs t × derives w t 0 (length w) x) → Read rs w
   derived_read x d = (d.0, d.1, (x, ((prefers.best d.0 w x).0 d.2).reads))
 
+  publish : (r : Result (Unit {0}) Denial) → Spanned None above rs w bench bench' report report' r → Published derives rs w report' r
+  publish (Ok done) h =
+      let t = h.best.0 in
+      let mine = (prefers.best t w h.reading).1 h.best.2 in
+      record {
+        exactly = λ x. (
+          (λ e. (t, h.best.1, subst (λ (y : Reading). derives w t 0 (length w) y) (sym (front above rs w report report' h) ∙ e.1) mine)),
+          (λ d.
+              let same : d.0 ≡ t = one_tree d.0 t (sym d.1 ∙ h.best.1) in
+              let also : derives w t 0 (length w) x = subst (λ (u : Tree). derives w u 0 (length w) x) same d.2 in
+              (refl, front above rs w report report' h ∙ prefers.unique t w 0 (length w) h.reading x mine also)),
+        );
+        denied = (
+          (λ e. absurd (let z : ◌≡◌ {A = ℕ} 0 1 = cc in omega arith)),
+          (λ n. absurd (n t h.best.1 ((readings_exactly t w).1 (h.reading, h.best.2.reads)))),
+        );
+      }
+  publish (Err d) h = record {
+    exactly = λ x. (
+      (λ e. absurd (let f = e.0 in let z : ◌≡◌ {A = ℕ} 0 1 = cc in omega arith)),
+      (λ y. absurd (h.1 (derived_read x y))),
+    );
+    denied = (
+      (λ e t of i. h.1 (t, of, (readings_exactly t w).0 i)),
+      (λ n. ap Err h.0),
+    );
+  }
+
+published : (above : Order) (derives : Relation) → Prefers above derives → (w : List Sight) (rules : Rules) (place : ℕ) (bench bench' : List ℕ) (report report' : Reading) (r : Result (Unit {0}) Denial) → SpansAnswer above w rules place bench bench' report report' r → spans_met rules place (length w) (length bench) (length report) ≡ None → Published derives (at rules place) w report' r
+published above derives prefers w rules place bench bench' report report' r h e =
+    publish above derives prefers (at rules place) w bench bench' report report' r (subst (λ (o : Option ℕ). Spanned o above (at rules place) w bench bench' report report' r) e h)
+
 pub published_by : (above known : Order) (derives : Relation) → Prefers known derives → above ≡ known → (w : List Sight) (rules : Rules) (place : ℕ) (bench bench' : List ℕ) (report report' : Reading) (r : Result (Unit {0}) Denial) → SpansAnswer above w rules place bench bench' report report' r → spans_met rules place (length w) (length bench) (length report) ≡ None → Published derives (at rules place) w report' r
 published_by above known derives prefers e w rules place bench bench' report report' r h m =
     published known derives prefers w rules place bench bench' report report' r (subst (λ (o : Order). SpansAnswer o w rules place bench bench' report report' r) e h) m
