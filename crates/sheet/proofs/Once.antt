@@ -1,8 +1,9 @@
 -- A question has one answer, whatever sheet with the same rules is asked.
-use Rattle.std.proofs.Common.{◌≡◌, ℕ, ◌<◌, ◌≤◌, Bool, List, length, Some, None, Ok, Option, sym, refl, ap, ◌∙◌, subst, inl, inr, ⊎_elim, arith}
+use Rattle.std.proofs.Common.{◌≡◌, ℕ, ◌<◌, ◌≤◌, Bool, List, length, Some, None, Ok, Option, sym, refl, ap, ◌∙◌, subst, inl, inr, ⊎_elim}
 use mathlib.Core.List.{List-discrete}
 use mathlib.Core.HLevel.{Discrete, ×_discrete}
 use native.Mathlib.Decide.{ℕ_discrete}
+use Rattle.std.proofs.lemmas.Option.{none-some, same_Some}
 use Rattle.std.proofs.lemmas.Bool.{cases_order}
 use Rattle.rules.specs.declared.row.Row.{Row}
 use Rattle.rules.specs.Trees.{Tree, rows, size, Of, here}
@@ -20,17 +21,11 @@ use Rattle.sheet.proofs.QuestionFacts.{seen_long}
 use Rattle.sheet.proofs.SpansFacts.{all_passed}
 use Rattle.sheet.proofs.Sights.{Same, same_from, Pairs, pairs_seen, turned, reads_alike}
 
-no_some : {X : Type 0} (x : X) → Some x ≡ None → ⊥
-no_some x e = let z : ◌≡◌ {A = ℕ} 0 1 = cc in omega arith
-
-some_same : {X : Type 0} {x y : X} → Some x ≡ Some y → x ≡ y
-some_same e = cc
-
 optional : {X : Type 0} → Discrete X → Discrete (Option X)
 optional d None None = yes refl
-optional d None (Some y) = no (λ e. no_some y (sym e))
-optional d (Some x) None = no (no_some x)
-optional d (Some x) (Some y) = elim (d x y) [ yes e ↦ yes (ap Some e) | no f ↦ no (λ e. f (some_same e)) ]
+optional d None (Some y) = no (λ e. none-some y e)
+optional d (Some x) None = no (λ e. none-some x (sym e))
+optional d (Some x) (Some y) = elim (d x y) [ yes e ↦ yes (ap Some e) | no f ↦ no (λ e. f (same_Some x y e)) ]
 
 -- whether two readings are the same can be told
 readings_told : Discrete Reading

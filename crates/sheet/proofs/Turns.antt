@@ -1,17 +1,12 @@
 -- A list of calls, made one after the other.
 use Rattle.std.proofs.Common.{◌≡◌, ℕ, ◌+◌, ◌<◌, ◌≤◌, Bool, true, cond, ◌&&◌, List, [], ◌∷◌, map, length, drop, Some, None, sym, refl, ap, ◌∙◌, ⊎_elim, arith}
 use Rattle.std.proofs.lemmas.List.{drop_all, drop-drop}
+use Rattle.std.proofs.lemmas.Option.{none-some, same_Some}
 use Rattle.std.proofs.lemmas.Bool.{and_parts, cases_Bool, cond-true, cond-false}
 use Rattle.sheet.specs.declared.history.Call.{Call as Made}
 use Rattle.sheet.specs.declared.history.Sheet.{Sheet}
 use Rattle.sheet.specs.Histories.{allows, open_then, held_then, leads_locked, held_from}
 use Rattle.sheet.specs.Replays.{meant, is_open, rules_in, alphabet_in, policy_in}
-
-no_some : {X : Type 0} (x : X) → Some x ≡ None → ⊥
-no_some x e = let z : ◌≡◌ {A = ℕ} 0 1 = cc in omega arith
-
-some_same : {X : Type 0} {x y : X} → Some x ≡ Some y → x ≡ y
-some_same e = cc
 
 drop_one : {X : Type 0} (l : List X) (i : ℕ) → drop 1 (drop i l) ≡ drop (i + 1) l
 drop_one l i = drop-drop 1 i l
@@ -68,6 +63,6 @@ module _ {S : Type 0} (cs : List (Made S)) (i : ℕ) (o whole : Bool) (same : le
 
     pub turned : (next : Bool) → Some next ≡ cond (allows o (meant c)) (Some (open_then o (meant c))) None → leads_locked next (map meant (drop (i + 1) cs)) ≡ whole
     turned next e = ⊎_elim
-        (λ t. ap (λ (b : Bool). leads_locked b (map meant (drop (i + 1) cs))) (some_same (e ∙ cond-true _ _ _ t)) ∙ sym (ap (λ (b : Bool). b && leads_locked (open_then o (meant c)) (map meant (drop (i + 1) cs))) t) ∙ turn)
-        (λ f. absurd (no_some next (e ∙ cond-false _ _ _ f)))
+        (λ t. ap (λ (b : Bool). leads_locked b (map meant (drop (i + 1) cs))) (same_Some _ _ (e ∙ cond-true _ _ _ t)) ∙ sym (ap (λ (b : Bool). b && leads_locked (open_then o (meant c)) (map meant (drop (i + 1) cs))) t) ∙ turn)
+        (λ f. absurd (none-some next (sym (e ∙ cond-false _ _ _ f))))
         (cases_Bool (allows o (meant c)))

@@ -61,9 +61,12 @@ module _ {A P : Type 0} where
   policy_in (Open s) = s.kept.policy
   policy_in (Locked s) = s.kept.policy
 
--- what a replay of calls, and then a question, gives back: not allowed exactly where the calls are not, or lead to an open sheet; else, for a sheet that held nothing, the law of its answer
+-- what a replay of calls, and then a question, gives back: not allowed, and the sheet as it was, exactly where the calls are not, or lead to an open sheet; else, for a sheet that held nothing, the law of its answer
 abbrev pub Replay : {A P S : Type 0} → (A → ℕ → ℕ → Bool) → (A → ℕ → ℕ → S → Bool) → (P → Order) → A → P → Rules → List (Made S) → Asked S → Asked S → Result (Replayed A P) (NotAllowed A P) → Type 0
-Replay admitted holds above alphabet policy rules calls q q' (Err not) = leads_locked true (map meant calls) ≡ false
+Replay admitted holds above alphabet policy rules calls q q' (Err not) =
+    (leads_locked true (map meant calls) ≡ false)
+    × (not.sheet.kept.alphabet ≡ alphabet) × (not.sheet.kept.policy ≡ policy)
+    × (holding not.sheet ≡ rules)
 Replay admitted holds above alphabet policy rules calls q q' (Ok r) =
     (leads_locked true (map meant calls) ≡ true)
     × (r.sheet.kept.alphabet ≡ alphabet) × (r.sheet.kept.policy ≡ policy)

@@ -5,7 +5,7 @@ use rules::{Denial, Kind, Row};
 use std::process::Abort;
 use std::test::Fail;
 
-// (a|ab)(b|)
+// (a|ab)(b|), written out, since a crate's tests do not see another's.
 fn two_choices() -> [Row; 9] {
     [
         Row::from(Kind::Sequence),

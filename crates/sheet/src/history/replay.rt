@@ -54,12 +54,12 @@ impl<A: Alphabet, P: Policy> Sheet<A, P> {
 }
 
 // Whether a sheet that is open, or locked, is open after the call, where it allows the call.
+// Open or locked is a bool here, as the law over histories says it.
 fn next_open<S>(open: bool, call: &Call<S>) -> Option<bool>
     ensures { result ≡ (if allows «open» (meant call.now) then Some (open_then «open» (meant call.now)) else None) }
 {
     match (open, call) {
-        (true, Call::Add(_)) => Some(true),
-        (true, Call::Drop(_)) => Some(true),
+        (true, Call::Add(_) | Call::Drop(_)) => Some(true),
         (true, Call::Lock) => Some(false),
         (false, Call::Unlock) => Some(true),
         (false, Call::Ask(_)) => Some(false),

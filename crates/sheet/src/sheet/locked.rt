@@ -80,10 +80,8 @@ impl<A: Alphabet, P: Policy> LockedSheet<A, P> {
             report,
         ) {
             Ok(()) => Ok(()),
-            Err(unmatched) => match unmatched {
-                Unmatched::NotRead => Err(Denial::NotRead),
-                Unmatched::Unfit => unreachable(),
-            },
+            Err(Unmatched::NotRead) => Err(Denial::NotRead),
+            Err(Unmatched::Unfit) => unreachable(),
         }
     }
 }

@@ -14,6 +14,8 @@ use crate::summary::Summary;
 use policies::Policy;
 use rules::{Alphabet, Denial};
 
+// Each answer is found, and its clause proved, by a function of its own; what a policy and a history make of it follows here.
+// The parameters are the call's own.
 impl<A: Alphabet, P: Policy> LockedSheet<A, P> {
     // Writes the best reading of the name by the rule at a place into the first entries of the report.
     pub fn spans(
