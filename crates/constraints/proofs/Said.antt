@@ -1,6 +1,5 @@
 -- What is printed of a reading, entry by entry.
-use Rattle.std.proofs.Common.{◌≡◌, ℕ, zero, suc, ◌+◌, ◌/◌, ◌%◌, ◌^◌, ◌<◌, ◌≤◌, List, [], ◌∷◌, ◌++◌, length, get_or, take, drop, replicate, None, decimal, Option, sym, refl, ap, ◌∙◌, ap₂, append_assoc, append-nil, arith}
-use Rattle.std.proofs.lemmas.Fmt.{decimal_digit, decimal_step}
+use Rattle.std.proofs.Common.{◌≡◌, ℕ, zero, suc, ◌+◌, ◌<◌, List, [], ◌∷◌, ◌++◌, length, get_or, take, drop, replicate, None, Option, sym, refl, ap, ◌∙◌, ap₂, append_assoc, append-nil, arith}
 use Rattle.rules.specs.Readings.{Reading}
 use Rattle.constraints.specs.Printed.{entry_said, entries_said}
 
@@ -34,11 +33,3 @@ entries_joined n (e ∷ x) y h = ap (λ (z : List ℕ). entry_said n e ++ z) (en
 -- a report that held nothing before says no more than the reading in it
 pub reading_said : (x report' : Reading) (m k : ℕ) → report' ≡ x ++ drop m (replicate k None) → entries_said 0 report' ≡ entries_said 0 x
 reading_said x report' m k e = ap (λ (r : Reading). entries_said 0 r) e ∙ entries_joined 0 x (drop m (replicate k None)) (λ n. nothing_said n m k)
-
--- a number's last digit, behind its front
-pub digit_said : (old new : List ℕ) (n : ℕ) → n < 10 → new ≡ old ++ ((48 + n % 10) ∷ []) → new ≡ old ++ decimal n
-digit_said old new n h e = let r : n % 10 ≡ n = omega arith in e ∙ ap (λ (k : ℕ). old ++ ((48 + k) ∷ [])) r ∙ ap (λ (x : List ℕ). old ++ x) (sym (decimal_digit n h))
-
-pub number_said : (old mid new : List ℕ) (n : ℕ) → 10 ≤ n → n < 2 ^ 64 → mid ≡ old ++ decimal (n / 10) → new ≡ mid ++ ((48 + n % 10) ∷ []) → new ≡ old ++ decimal n
-number_said old mid new n h k e f =
-    f ∙ ap (λ (x : List ℕ). x ++ ((48 + n % 10) ∷ [])) e ∙ append_assoc old (decimal (n / 10)) ((48 + n % 10) ∷ []) ∙ ap (λ (x : List ℕ). old ++ x) (sym (decimal_step n h k))

@@ -3,20 +3,16 @@ ghost use Rattle.rules.specs.Denials.{number};
 ghost use Rattle.session.specs.Served.{Prints};
 ghost use Rattle.constraints.specs.Printed.{entry_said, name_said};
 
+use itoa::Buffer;
 use rules::Denial;
 use session::print_denial;
 use std::alloc::{AllocError, Global};
 
 // The number in base ten, behind the line.
-// Digit by digit, since `format!` takes most of the time of an answer, and `itoa` answers 6 percent fewer names a second.
 fn push_number(line: &mut Vec<u8>, n: usize) -> Result<(), AllocError>
     ensures { OnOk result (line.new.items ≡ line.old.items ++ decimal n) }
 {
-    if n >= 10 {
-        push_number(line, n / 10)?;
-    }
-    line.push(b'0' + (n % 10) as u8)?;
-    Ok(())
+    line.extend_from_slice(Buffer::new().format(n).as_bytes())
 }
 
 // Prints `-` where no rule reads the name, else `! ` and the number.
