@@ -43,6 +43,7 @@ fn serve_rule(sheet: FileSheet, text: &[u8], out: &mut Vec<u8>) -> Result<FileSh
 }
 
 // Serves one line: the state and the sheet after it, and what it prints behind what was printed before.
+// `session` has its own `serve`, `serve_line` and `serve_rule`, with no sheet, and so other promises: netread prints what it printed.
 // The sheet is moved, and bench and output are borrowed: a struct of the three would be taken apart in each arm.
 pub fn serve_line(
     state: State,

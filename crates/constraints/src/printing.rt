@@ -26,6 +26,7 @@ pub(crate) fn print_refusal(denial: Denial, out: &mut Vec<u8>) -> Result<(), All
 }
 
 // ` node:start-end`, behind the line.
+// Piece by piece: with `format!` 2.5 million names a second are answered, and docs/speed.md has 2.8 million.
 fn push_stretch(line: &mut Vec<u8>, node: usize, start: usize, end: usize) -> Result<(), AllocError>
     ensures { OnOk result (line.new.items ≡ line.old.items ++ entry_said node (Some (start, end))) }
 {
@@ -38,6 +39,7 @@ fn push_stretch(line: &mut Vec<u8>, node: usize, start: usize, end: usize) -> Re
 }
 
 // The place, and the stretch of each node that has one, on a line.
+// A loop, since each piece may run out of memory.
 fn reading_line(
     heap: Global,
     place: usize,

@@ -2,6 +2,7 @@ use crate::answers::serve;
 use std::process::Abort;
 use std::test::Fail;
 
+// This and two tests are much as in `session`, whose tests cannot be called from here.
 fn prints(rt: &(impl Abort + AllocGlobal), input: &[u8], want: &[u8]) -> Result<(), Fail> {
     let printed = serve(rt.alloc(), input)?;
     assert_eq!(rt; printed.as_slice(), want);

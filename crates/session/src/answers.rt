@@ -3,6 +3,7 @@ ghost use Rattle.session.specs.Lines.{lines};
 ghost use Rattle.session.specs.Served.{PrintsBy, RulePrints, Answers, Session, start};
 
 use crate::line::{Line, State, kind_of};
+// The limit is to be had here too, beside what keeps to it.
 pub use crate::lines::LIMIT;
 use crate::lines::served_lines;
 use crate::printing::{print_denial, print_question};
