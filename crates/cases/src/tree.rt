@@ -88,7 +88,7 @@ impl Tree {
     }
 
     // Whether the tree has a beginning of the word, of so many symbols at least, and the next tree the rest.
-    // A split is a number, so the loop counts it.
+    // A loop, since by `any` the closure would be in the cycle of calls, with clauses of its own longer than this.
     #[cycle(membership)]
     fn has_before(&self, next: &Tree, word: &[u8], least: usize) -> bool
         ensures { (result ≡ true) ↔ HasBefore self.now next.now word.now least }
