@@ -5,6 +5,7 @@ pub mod pick;
 pub mod tree;
 
 pub use lister::readings;
+pub use pick::best;
 
 #[cfg(test)]
 mod tests;

@@ -41,7 +41,7 @@ pub(crate) fn compare_by<K: Fn(&Row, &Entry) -> Option<usize>>(
 }
 
 // The reading that no other is above, among those listed.
-pub(crate) fn best<'a, F: Fn(&[Entry], &[Entry]) -> Ordering>(
+pub fn best<'a, F: Fn(&[Entry], &[Entry]) -> Ordering>(
     compare: F,
     all: &'a [Reading],
 ) -> Option<&'a Reading>

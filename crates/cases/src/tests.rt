@@ -53,7 +53,7 @@ impl Case<'_> {
     }
 }
 
-// Names and rules go by numbers, so the loops over them count. Four letters by the digits of a number, 0 for a and 1 for b.
+// Four letters by the digits of a number, 0 for a and 1 for b.
 fn letters(number: usize) -> [u8; 4] {
     array::from_fn(|at| if (number >> at) % 2 == 1 { b'b' } else { b'a' })
 }
@@ -91,21 +91,17 @@ impl Subject<'_> {
 
     // The rule agrees on every name of a and b with so many symbols, at most four.
     fn agrees_at(&self, rt: &impl Abort, heap: Global, symbols: usize) -> Result<(), Fail> {
-        for number in 0..16 {
+        (0..16).try_for_each(|number| {
             let name = letters(number);
-            self.agrees_on(rt, heap, &name[..symbols.min(4)])?;
-        }
-        Ok(())
+            self.agrees_on(rt, heap, &name[..symbols.min(4)])
+        })
     }
 }
 
 fn rule_agrees(rt: &impl Abort, heap: Global, rule: &Rule) -> Result<(), Fail> {
     let tree = Tree::of(heap, rule.rows())?.ok_or("no tree")?;
     let subject = Subject { rule, tree: &tree };
-    for symbols in 0..5 {
-        subject.agrees_at(rt, heap, symbols)?;
-    }
-    Ok(())
+    (0..5).try_for_each(|symbols| subject.agrees_at(rt, heap, symbols))
 }
 
 fn row_of(digit: usize) -> Row {
@@ -132,13 +128,13 @@ fn rows_of(number: usize) -> [Row; 5] {
 
 // Every rule of so many rows agrees; the numbers below `count` give all of their rows.
 fn rules_agree(rt: &impl Abort, heap: Global, count: usize, nodes: usize) -> Result<(), Fail> {
-    for number in 0..count {
+    (0..count).try_for_each(|number| {
         let rows = rows_of(number);
-        if let Ok(rule) = Rule::checked(&Bytes, &rows[..nodes.min(5)]) {
-            rule_agrees(rt, heap, &rule)?;
+        match Rule::checked(&Bytes, &rows[..nodes.min(5)]) {
+            Ok(rule) => rule_agrees(rt, heap, &rule),
+            Err(_) => Ok(()),
         }
-    }
-    Ok(())
+    })
 }
 
 #[test]

@@ -1,4 +1,5 @@
-ghost use Rattle.std.specs.Prelude.{◌≡◌, ◌+◌, ◌++◌, length, IfOk, OnOk, IfSome, replicate, sum_by};
+ghost use Rattle.std.specs.Prelude.{◌≡◌, ◌+◌, ◌++◌, ◌↔◌, true, length, IfOk, OnOk, IfSome, replicate, sum_by};
+ghost use Rattle.cases.specs.Names.{Has, HasBefore};
 ghost use Rattle.cases.specs.Sizes.{size};
 
 use rules::{Kind, Row};
@@ -69,9 +70,11 @@ impl Tree {
         Ok(if parts.is_empty() { tree } else { None })
     }
 
-    // Whether the tree has the word, every split tried. That it answers right is tested.
+    // Whether the tree has the word, every split tried.
     #[cycle(membership)]
-    pub(crate) fn has(&self, word: &[u8]) -> bool {
+    pub fn has(&self, word: &[u8]) -> bool
+        ensures { (result ≡ true) ↔ Has self.now word.now }
+    {
         match self {
             Tree::Empty => word.is_empty(),
             Tree::Leaf { lo, hi } => match word {
@@ -85,9 +88,11 @@ impl Tree {
     }
 
     // Whether the tree has a beginning of the word, of so many symbols at least, and the next tree the rest.
-    // A split is a number, so the loop counts it.
+    // A loop, since by `any` the closure would be in the cycle of calls, with clauses of its own longer than this.
     #[cycle(membership)]
-    fn has_before(&self, next: &Tree, word: &[u8], least: usize) -> bool {
+    fn has_before(&self, next: &Tree, word: &[u8], least: usize) -> bool
+        ensures { (result ≡ true) ↔ HasBefore self.now next.now word.now least }
+    {
         for k in least..=word.len() {
             if self.has(&word[..k]) && next.has(&word[k..]) {
                 return true;

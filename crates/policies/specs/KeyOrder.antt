@@ -1,7 +1,7 @@
 -- An order by keys is an order of the readings, and a better part makes a better whole.
-use Rattle.std.specs.Prelude.{◌≡◌, ℕ, suc, ◌+◌, true, ◌⊎◌, List, [], ◌∷◌, ◌++◌, length, drop, ◌≢◌, refl}
-use Rattle.std.proofs.Common.{sym, ◌∙◌, inl, inr, append_assoc, arith, length-append}
-use Rattle.std.proofs.lemmas.List.{drop_at}
+use Rattle.std.specs.Prelude.{◌≡◌, ℕ, suc, ◌+◌, true, ◌⊎◌, List, ◌∷◌, ◌++◌, length, drop, ◌≢◌, refl}
+use Rattle.std.proofs.Common.{sym, ap, ◌∙◌, inl, inr, append_assoc, arith}
+use Rattle.std.proofs.lemmas.List.{drop_at, drop-drop}
 use Rattle.rules.specs.declared.row.Row.{Row}
 use Rattle.rules.specs.Trees.{Tree, choice, sequence, size, row, rows, Bound}
 use Rattle.rules.specs.Languages.{Sight}
@@ -36,19 +36,15 @@ decided {key} f = record {
 abbrev Node : List Row → ℕ → ℕ → Tree → Tree → Type 0
 Node rs n k p q = (b : List Row) × (drop n rs ≡ row k 0 0 ∷ (rows p ++ (rows q ++ b))) × (drop (suc n) rs ≡ rows p ++ (rows q ++ b)) × (drop (suc (size p + n)) rs ≡ rows q ++ b)
 
-node : (rs : List Row) (n k : ℕ) (p q : Tree) (a b : List Row) → length a ≡ n → rs ≡ a ++ ((row k 0 0 ∷ (rows p ++ rows q)) ++ b) → Node rs n k p q
-node rs n k p q a b l e =
-    let h : (rows p ++ rows q) ++ b ≡ rows p ++ (rows q ++ b) = append_assoc (rows p) (rows q) b in
-    let e1 : rs ≡ a ++ (row k 0 0 ∷ (rows p ++ (rows q ++ b))) = rw h at e in
-    let e2 : rs ≡ (a ++ (row k 0 0 ∷ [])) ++ (rows p ++ (rows q ++ b)) = e1 ∙ sym (append_assoc a (row k 0 0 ∷ []) (rows p ++ (rows q ++ b))) in
-    let e3 : rs ≡ (a ++ (row k 0 0 ∷ rows p)) ++ (rows q ++ b) = e1 ∙ sym (append_assoc a (row k 0 0 ∷ rows p) (rows q ++ b)) in
-    let l2 : length (a ++ (row k 0 0 ∷ [])) ≡ suc n = length-append a (row k 0 0 ∷ []) ∙ omega arith in
-    let l3 : length (a ++ (row k 0 0 ∷ rows p)) ≡ suc (size p + n) = length-append a (row k 0 0 ∷ rows p) ∙ omega (arith, length_rows p) in (
-      b,
-      rw e1 (drop_at a (row k 0 0 ∷ (rows p ++ (rows q ++ b))) n l),
-      rw e2 (drop_at (a ++ (row k 0 0 ∷ [])) (rows p ++ (rows q ++ b)) (suc n) l2),
-      rw e3 (drop_at (a ++ (row k 0 0 ∷ rows p)) (rows q ++ b) (suc (size p + n)) l3),
-    )
+node : (rs : List Row) (n k : ℕ) (p q : Tree) (b : List Row) → drop n rs ≡ (row k 0 0 ∷ (rows p ++ rows q)) ++ b → Node rs n k p q
+node rs n k p q b e =
+    let m : List Row = rows p ++ (rows q ++ b) in
+    let whole : drop n rs ≡ row k 0 0 ∷ m = e ∙ ap (λ (r : List Row). row k 0 0 ∷ r) (append_assoc (rows p) (rows q) b) in
+    let first : drop (n + 1) rs ≡ m = sym (drop-drop 1 n rs) ∙ ap (λ (r : List Row). drop 1 r) whole in
+    let second : drop (n + 1 + size p) rs ≡ rows q ++ b = sym (drop-drop (size p) (n + 1) rs) ∙ ap (λ (r : List Row). drop (size p) r) first ∙ drop_at (rows p) (rows q ++ b) (size p) (length_rows p) in
+    let at_first : suc n ≡ n + 1 = omega arith in
+    let at_second : suc (size p + n) ≡ n + 1 + size p = omega arith in
+    (b, whole, rw at_first first, rw at_second second)
 
 -- a better first part
 better_first : (key : Key) (rs : List Row) (n k : ℕ) (p q : Tree) → Node rs n k p q → (i j : ℕ) (x y z : Reading) → length (rows p) ≡ length x → length (rows p) ≡ length y
@@ -65,10 +61,10 @@ better_second : (key : Key) (rs : List Row) (n k : ℕ) (p q : Tree) → Node rs
 better_second key rs n k p q c i j x y z lz h = rw c.1 (whole_second key k p (rows q ++ c.0) (stretch i j) (stretch i j) z x y refl lz (rw c.3 at h))
 
 choice_node : {t : Tree} {n : ℕ} {p q : Tree} → Bound t n (choice p q) → Node (rows t) n 2 p q
-choice_node {t} {n} {p} {q} b = let h = bound_rows b in node (rows t) n 2 p q h.0 h.1 h.2 h.3
+choice_node {t} {n} {p} {q} b = let h = bound_rows b in node (rows t) n 2 p q h.rest h.is
 
 sequence_node : {t : Tree} {n : ℕ} {p q : Tree} → Bound t n (sequence p q) → Node (rows t) n 3 p q
-sequence_node {t} {n} {p} {q} b = let h = bound_rows b in node (rows t) n 3 p q h.0 h.1 h.2 h.3
+sequence_node {t} {n} {p} {q} b = let h = bound_rows b in node (rows t) n 3 p q h.rest h.is
 
 pub replaced : (key : Key) → Replaced (above_by key)
 replaced key = record {

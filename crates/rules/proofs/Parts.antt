@@ -118,17 +118,8 @@ part_whole w = let e : length w - 0 ≡ length w = omega arith in rw e (take_all
 pub empty_parts : (w : List Sight) (i j : ℕ) → i ≤ j → j ≤ length w → In empty (part w i j) ↔ (i ≡ j)
 empty_parts w i j a b = (empty_part w i j a b, λ e. subst (λ (z : ℕ). In empty (part w i z)) e (empty_here w i))
 
-pub leaf_parts : (w : List Sight) (lo hi i j : ℕ) → i ≤ j → j ≤ length w → In (leaf lo hi) (part w i j) ↔ ((j ≡ suc i) × In (leaf lo hi) (part w i (suc i)))
-leaf_parts w lo hi i j a b = (
-  (λ h. let e : j ≡ suc i = leaf_part w lo hi i j a b h in (e, subst (λ (z : ℕ). In (leaf lo hi) (part w i z)) e h)),
-  (λ h. subst (λ (z : ℕ). In (leaf lo hi) (part w i z)) (sym h.0) h.1),
-)
-
 pub choice_parts : (w : List Sight) (p q : Tree) (i j : ℕ) → In (choice p q) (part w i j) ↔ (In p (part w i j) ⊎ In q (part w i j))
 choice_parts w p q i j = (λ h. in_cases h, elim [ inl a ↦ in_first a | inr a ↦ in_second a ])
-
-pub sequence_parts : (w : List Sight) (p q : Tree) (i j : ℕ) → i ≤ j → j ≤ length w → In (sequence p q) (part w i j) ↔ Split w p q i j
-sequence_parts w p q i j a b = (sequence_split w p q i j a b, λ s. sequence_join w p q i j s.0 s.1 s.2 s.3 s.4)
 
 rounds_in : (w : List Sight) (p : Tree) (i j : ℕ) → Rounds w p i j → In (star p) (part w i j)
 rounds_in w p i j (inl e) = subst (λ (z : ℕ). In (star p) (part w i z)) e (star_here w p i)

@@ -1,7 +1,8 @@
 -- Rows of a tree: how many they are, and where those of a node stand.
-use Rattle.std.proofs.Common.{◌≡◌, ℕ, suc, ◌+◌, ◌<◌, ◌≤◌, List, [], ◌∷◌, ◌++◌, length, drop, sym, refl, ap, ◌∙◌, append_assoc, append-nil, arith, length-append}
-use Rattle.std.proofs.lemmas.List.{drop_at}
+use Rattle.std.proofs.Common.{◌≡◌, ℕ, suc, ◌+◌, ◌≤◌, List, [], ◌∷◌, ◌++◌, length, drop, sym, refl, ap, ◌∙◌, append_assoc, append-nil, arith, length-append, length-drop}
+use Rattle.std.proofs.lemmas.List.{drop_at, drop-drop, drop-append-le}
 use Rattle.rules.specs.declared.row.Row.{Row}
+use Rattle.rules.specs.Nodes.{Stands}
 use Rattle.rules.specs.Trees.{Tree, empty, leaf, choice, sequence, star, size, leaves, row, rows, Bound, here, choice_first, choice_second, sequence_first, sequence_second}
 
 pub length_rows : (t : Tree) → length (rows t) ≡ size t
@@ -22,27 +23,25 @@ first_row (choice p q) = (row 2 0 0, rows p ++ rows q, refl)
 first_row (sequence p q) = (row 3 0 0, rows p ++ rows q, refl)
 first_row (star p) = (row 4 0 0, rows p, refl)
 
-abbrev pub Stands : List Row → ℕ → Tree → Type 0
-Stands rs n s = (a : List Row) × (b : List Row) × (length a ≡ n) × (rs ≡ a ++ (rows s ++ b))
+-- the rows before those of a node are some of the rule's
+within : (p s : Tree) (n : ℕ) → Stands (rows p) n s → n ≤ length (rows p)
+within p s n h = omega (arith, length-drop n (rows p), ap length h.is ∙ length-append (rows s) h.rest, ap length (first_row s).2)
 
 under : (k : ℕ) (p q s : Tree) {n : ℕ} → Stands (rows p) n s → Stands (row k 0 0 ∷ (rows p ++ rows q)) (suc n) s
-under k p q s h =
-    let a = h.0 in
-    let b = h.1 in
-    let e : rows p ++ rows q ≡ a ++ (rows s ++ (b ++ rows q)) = rw h.3 (simp append_assoc) in
-    (row k 0 0 ∷ a, b ++ rows q, ap suc h.2, ap {B = List Row} (λ z. row k 0 0 ∷ z) e)
+under k p q s {n} h = record {
+  rest = h.rest ++ rows q;
+  is = drop-append-le n (rows p) (rows q) (within p s n h) ∙ ap (λ (r : List Row). r ++ rows q) h.is ∙ append_assoc (rows s) h.rest (rows q);
+}
 
 beside : (k : ℕ) (p q s : Tree) {n : ℕ} → Stands (rows q) n s → Stands (row k 0 0 ∷ (rows p ++ rows q)) (suc (size p + n)) s
-beside k p q s {n} h =
-    let a = h.0 in
-    let b = h.1 in
-    let e : rows p ++ rows q ≡ (rows p ++ a) ++ (rows s ++ b) = rw h.3 (simp append_assoc) in
-    let l : length (rows p ++ a) ≡ size p + n = length-append (rows p) a ∙ (let c = length_rows p in let d = h.2 in omega arith) in
-    (row k 0 0 ∷ (rows p ++ a), b, ap suc l, ap {B = List Row} (λ z. row k 0 0 ∷ z) e)
+beside k p q s {n} h = record {
+  rest = h.rest;
+  is = sym (drop-drop n (size p) (rows p ++ rows q)) ∙ ap (λ (r : List Row). drop n r) (drop_at (rows p) (rows q) (size p) (length_rows p)) ∙ h.is;
+}
 
 -- the tree at a node: its rows stand there
 pub bound_rows : {t s : Tree} {n : ℕ} → Bound t n s → Stands (rows t) n s
-bound_rows (here {t = t}) = ([], [], refl, sym (append-nil (rows t)))
+bound_rows (here {t = t}) = record { rest = []; is = sym (append-nil (rows t)) }
 bound_rows (choice_first {p = p} {q = q} {s = s} h) = under 2 p q s (bound_rows h)
 bound_rows (choice_second {p = p} {q = q} {s = s} h) = beside 2 p q s (bound_rows h)
 bound_rows (sequence_first {p = p} {q = q} {s = s} h) = under 3 p q s (bound_rows h)
@@ -50,13 +49,7 @@ bound_rows (sequence_second {p = p} {q = q} {s = s} h) = beside 3 p q s (bound_r
 
 -- the rows from a node on: those of its tree, and more
 pub rows_from : {t s : Tree} {n : ℕ} → Bound t n s → (b : List Row) × (drop n (rows t) ≡ rows s ++ b)
-rows_from {s = s} {n = n} b = let h = bound_rows b in (h.1, rw h.3 (drop_at h.0 (rows s ++ h.1) n h.2))
-
-pub bound_within : {t s : Tree} {n : ℕ} → Bound t n s → n < length (rows t)
-bound_within {s = s} b =
-    let h = bound_rows b in
-    let r = ap length (first_row s).2 in
-    omega (arith, ap length h.3 ∙ length-append h.0 (rows s ++ h.1), length-append (rows s) h.1, h.2)
+rows_from b = let h = bound_rows b in (h.rest, h.is)
 
 -- two leaves need three rows
 leaves_rows : (t : Tree) → leaves t + leaves t ≤ suc (size t)

@@ -5,36 +5,36 @@ use crate::row::Row;
 use crate::rule::Rule;
 use std::test::Fail;
 
-// The number of the check that the rows meet, if there is one.
-fn denied(rows: &[Row]) -> Option<u8> {
-    Rule::checked(&Bytes, rows)
-        .err()
-        .map(|denial| denial.number())
+// The check that the rows meet, if there is one.
+fn denied(rows: &[Row]) -> Option<Denial> {
+    Rule::checked(&Bytes, rows).err()
 }
 
 #[test]
 fn rows_are_checked_in_order(rt: HostRuntime) {
-    let leaf = Row::new(1, 97, 97);
-    let choice = Row::inner(2);
+    let leaf = Row::leaf(97, 97);
+    let choice = Row::from(Kind::Choice);
+    let star = Row::from(Kind::Star);
+    // No kind has this number, so the row is made of numbers.
     let bad_kind = Row::new(5, 1, 1);
-    assert_eq!(rt; denied(&[]), Some(2));
-    assert_eq!(rt; denied(&[Row::inner(4); 65]), Some(2));
+    assert_eq!(rt; denied(&[]), Some(Denial::RowCount));
+    assert_eq!(rt; denied(&[star; 65]), Some(Denial::RowCount));
     assert_eq!(rt; denied(&[leaf]), None);
-    assert_eq!(rt; denied(&[leaf, bad_kind]), Some(5));
-    assert_eq!(rt; denied(&[bad_kind]), Some(3));
-    assert_eq!(rt; denied(&[Row::new(1, 98, 97)]), Some(4));
-    assert_eq!(rt; denied(&[Row::new(2, 0, 1), bad_kind]), Some(4));
-    assert_eq!(rt; denied(&[choice, leaf]), Some(6));
-    assert_eq!(rt; denied(&[Row::inner(4); 64]), Some(6));
+    assert_eq!(rt; denied(&[leaf, bad_kind]), Some(Denial::RowTooMany));
+    assert_eq!(rt; denied(&[bad_kind]), Some(Denial::UnknownKind));
+    assert_eq!(rt; denied(&[Row::leaf(98, 97)]), Some(Denial::NotAdmitted));
+    let numbered = Row::new(Kind::Choice as u8, 0, 1);
+    assert_eq!(rt; denied(&[numbered, bad_kind]), Some(Denial::NotAdmitted));
+    assert_eq!(rt; denied(&[choice, leaf]), Some(Denial::RowsMissing));
+    assert_eq!(rt; denied(&[star; 64]), Some(Denial::RowsMissing));
     assert_eq!(rt; denied(&[choice, leaf, leaf]), None);
 }
 
 #[test]
 fn a_rule_keeps_its_rows(rt: HostRuntime) -> Result<(), Fail> {
-    let rule = Rule::checked(&Bytes, &[Row::inner(4), Row::new(1, 0, 255)])?;
-    let rows = rule.rows();
-    assert!(rt; rows.len() == 2);
-    assert!(rt; rows[0].kind == 4 && rows[1].kind == 1 && rows[1].hi == 255);
+    let rows = [Row::from(Kind::Star), Row::leaf(0, 255)];
+    let rule = Rule::checked(&Bytes, &rows)?;
+    assert_eq!(rt; rule.rows(), rows.as_slice());
     Ok(())
 }
 

@@ -16,10 +16,8 @@ impl Kind {
         ensures { result ≡ parts (kind_number self) }
     {
         match self {
-            Kind::Empty => 0,
-            Kind::Leaf => 0,
-            Kind::Choice => 2,
-            Kind::Sequence => 2,
+            Kind::Empty | Kind::Leaf => 0,
+            Kind::Choice | Kind::Sequence => 2,
             Kind::Star => 1,
         }
     }
@@ -86,7 +84,6 @@ impl Rule {
         ensures value { result.now ≡ rule_rows self.now }
         ensures ruled { Ruled (rule_rows self.now) }
     {
-        let len = self.len;
-        &self.rows[0..len]
+        &self.rows[..self.len]
     }
 }
