@@ -66,7 +66,7 @@ def functions(text):
         yield m.group(1), [" ".join(p.split()) for p in flat if p.strip()]
 
 
-def lines_of(point, wanted, show):
+def lines_of(point, show):
     total = 0
     for name, pattern in LINES[point]:
         found = []
@@ -142,7 +142,7 @@ def main():
     wanted = [a for a in args if a != "-l"] or list("1234567")
     for point in wanted:
         if point in LINES:
-            lines_of(point, wanted, show)
+            lines_of(point, show)
         elif point == "2":
             twins(show)
         elif point == "5":

@@ -5,7 +5,6 @@ pub mod pick;
 pub mod tree;
 
 pub use lister::readings;
-pub use pick::best;
 
 #[cfg(test)]
 mod tests;
