@@ -1,4 +1,4 @@
-ghost use Rattle.std.specs.Prelude.{◌≡◌, ℕ, ◌+◌, ◌*◌, ◌≤◌, length};
+ghost use Rattle.std.specs.Prelude.{◌+◌, ◌*◌, ◌≤◌, length};
 
 use crate::kept::{insert, put};
 use crate::sign::{Sign, next_sign, stands_at, stops_at};
@@ -20,7 +20,7 @@ pub(crate) struct Reader<'a> {
 }
 
 impl<'a> Reader<'a> {
-    ghost use Rattle.std.specs.Prelude.{◌≡◌, ℕ, ◌+◌, ◌*◌, ◌≤◌, true, false, List, ◌∷◌, ◌≢◌, length, take, drop, slice_set};
+    ghost use Rattle.std.specs.Prelude.{◌≡◌, ℕ, ◌+◌, ◌≤◌, true, false, List, ◌∷◌, ◌≢◌, length, take, drop, slice_set};
     ghost use Rattle.rules.specs.Trees.{Tree, row, size};
     ghost use Rattle.text.specs.Readers.{ReadText, ReadBranch, ReadPiece, ReadAtom};
     ghost use Rattle.text.specs.Written.{Starred};
