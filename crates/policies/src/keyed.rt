@@ -11,6 +11,7 @@ pub trait Keyed {
     ghost key: { Self → Key };
 
     // Compares the keys of two stretches, by their lengths or nothing, at a node of the kind.
+    // The kind is a row's number, since a `Kind` would ask of callers that the number is a kind's.
     fn compare(&self, kind: u8, first: Option<usize>, second: Option<usize>) -> Ordering
         ensures { NodesCompare (key self.now) kind first second result };
 

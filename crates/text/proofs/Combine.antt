@@ -22,10 +22,6 @@ pair_written old s1 s2 new count mid p q r e f i g front long h =
     let k = holds_insert s1 s2 front (rows p) count mid r i long whole (f front long h) in
     subst (λ (w : List Row). Holds new w) (append_assoc front (r ∷ rows p) (rows q)) (g (front ++ (r ∷ rows p)) long2 k)
 
--- the row that was inserted is given by an equation
-pub inserted_as : {old new : List Row} {at end : ℕ} {r s : Row} → r ≡ s → Inserted old at end r new → Inserted old at end s new
-inserted_as {old} {new} {at} {end} e i = subst (λ (w : Row). Inserted old at end w new) e i
-
 stops_last : {x : List ℕ} → Stops x → ((z : List ℕ) → x ≡ 124 ∷ z → ⊥) → Ends x
 stops_last stops_empty h = ends_empty
 stops_last stops_close h = ends_close
@@ -108,8 +104,8 @@ moved {R = R} {text = text} {at = at} {to = to} e f g r = record {
   written = λ front long h. subst (λ (w : List Row). Holds w (front ++ rows r.tree)) (sym g) (r.written front long h);
 }
 
-pub empty_put : {text : List ℕ} {at count : ℕ} {old new : List Row} (r : Row) → r ≡ row 0 0 0 → Stops (drop at text) → length old ≡ 64 → new ≡ set old count r → Reaches ReadBranch text at count at (count + 1) old new
-empty_put {count = count} {old = old} r e s long g = moved refl refl (g ∙ ap (λ (w : Row). set old count w) e) (branch_empty s long)
+pub empty_put : {text : List ℕ} {at count to end : ℕ} {old new : List Row} {r : Row} → r ≡ row 0 0 0 → Stops (drop at text) → length old ≡ 64 → to ≡ at → end ≡ count + 1 → new ≡ set old count r → Reaches ReadBranch text at count to end old new
+empty_put {count = count} {old = old} e s long f n g = moved f n (g ∙ ap (λ (w : Row). set old count w) e) (branch_empty s long)
 
 atom_leaf : {text : List ℕ} {at count to lo hi : ℕ} {m : Mark} {old : List Row} → Lex (drop at text) m (drop to text) → Alone m (leaf lo hi) → length old ≡ 64 → Reaches ReadAtom text at count to (count + 1) old (set old count (row 1 lo hi))
 atom_leaf {count = count} {lo = lo} {hi = hi} {old = old} l a long = record {

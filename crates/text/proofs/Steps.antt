@@ -8,7 +8,7 @@ use Rattle.text.specs.declared.sign.Sign.TheVariants.{Open, Close, Bar, Star}
 use Rattle.text.specs.Signs.{open_mark, Lex, mark, Signed, Stops}
 use Rattle.text.specs.Readers.{Alone, ReadText, ReadBranch, ReadPiece, ReadAtom}
 use Rattle.text.specs.Written.{Holds, Inserted, Reaches, Refuses, Starred}
-use Rattle.text.specs.Steps.{Goes, Moved, Takes}
+use Rattle.text.specs.Steps.{Goes, Grows, Moved, Takes}
 use Rattle.text.proofs.Combine.{text_last, text_more, text_refused_more, branch_last, branch_more, branch_refused_more, piece_read, stars_last, stars_next, atom_grouped, atom_refused_open, atom_refused_sign, as_sign, atom_refused_close, leaf_put}
 
 -- the same from a beginning that is given by equations
@@ -25,43 +25,51 @@ put_in {old} {old2} {new} {at} {end} {end2} {r} e f i = subst (λ (w : List Row)
 here_in : {text text2 : List ℕ} {byte : ℕ} (at : ℕ) → text2 ≡ text → drop at text2 ≡ byte ∷ drop (at + 1) text2 → drop at text ≡ byte ∷ drop (at + 1) text
 here_in {byte = byte} at e h = subst (λ (w : List ℕ). drop at w ≡ byte ∷ drop (at + 1) w) e h
 
+-- the row is given by an equation
+pub grown_as : {old new : Reader} {at : ℕ} {r s : Row} → r ≡ s → Grows old new at r → Grows old new at s
+grown_as {old} {new} {at} e g = subst (λ (w : Row). Grows old new at w) e g
+
+-- what cannot be read with the row more cannot be read without it
+refused_before : (R : List ℕ → Tree → List ℕ → Type 0) {old new : Reader} {at : ℕ} {r : Row} → Grows old new at r → Refuses R (drop new.at new.text.now) → Refuses R (drop old.at old.text.now)
+refused_before R {old} {new} i h = subst (λ (w : List ℕ). Refuses R (drop old.at w)) i.text (subst (λ (n : ℕ). Refuses R (drop n new.text.now)) i.read h)
+
 -- a text: a branch, and what follows `|`
-pub text_goes : {old b t new : Reader} {mid : List Row} → Goes ReadBranch old b → Takes b t 124 → Inserted t.rows old.count t.count (row 2 0 0) mid → new.text.now ≡ t.text.now → Reaches ReadText t.text.now t.at (t.count + 1) new.at new.count mid new.rows → Goes ReadText old new
-text_goes {b = b} g k i e h = record {
-  text = e ∙ k.moved.text ∙ g.text;
-  reaches = text_more g.reaches (here_in b.at g.text k.here) (put_in k.moved.rows k.moved.count i)
-      (moved_from (k.moved.text ∙ g.text) k.at (ap (λ (c : ℕ). c + 1) k.moved.count) refl h);
+pub text_goes : {old b t u new : Reader} → Goes ReadBranch old b → Takes b t 124 → Grows t u old.count (row 2 0 0) → Goes ReadText u new → Goes ReadText old new
+text_goes {b = b} g k i h = record {
+  text = h.text ∙ i.text ∙ k.moved.text ∙ g.text;
+  reaches = text_more g.reaches (here_in b.at g.text k.here) (put_in k.moved.rows k.moved.count i.rows)
+      (moved_from (i.text ∙ k.moved.text ∙ g.text) (i.read ∙ k.at) (i.count ∙ ap (λ (c : ℕ). c + 1) k.moved.count) refl h.reaches);
 }
 
-pub text_stays : {old b t : Reader} → Goes ReadBranch old b → Takes b t 124 → Refuses ReadText (drop t.at t.text.now) → Refuses ReadText (drop old.at old.text.now)
-text_stays {b = b} {t = t} g k h =
+pub text_stays : {old b t u : Reader} {at : ℕ} {r : Row} → Goes ReadBranch old b → Takes b t 124 → Grows t u at r → Refuses ReadText (drop u.at u.text.now) → Refuses ReadText (drop old.at old.text.now)
+text_stays {b = b} {t = t} g k i h =
     text_refused_more g.reaches.reads (here_in b.at g.text k.here)
-    (subst (λ (w : List ℕ). Refuses ReadText (drop (b.at + 1) w)) (k.moved.text ∙ g.text) (subst (λ (n : ℕ). Refuses ReadText (drop n t.text.now)) k.at h))
+    (subst (λ (w : List ℕ). Refuses ReadText (drop (b.at + 1) w)) (k.moved.text ∙ g.text) (subst (λ (n : ℕ). Refuses ReadText (drop n t.text.now)) k.at (refused_before ReadText i h)))
 
 pub text_ends : {old b t : Reader} → Goes ReadBranch old b → (t ≡ b) × ((z : List ℕ) → drop b.at b.text.now ≡ 124 ∷ z → ⊥) → Goes ReadText old t
 text_ends {old} {b} g h =
     subst (λ (r : Reader). Goes ReadText old r) (sym h.0) (record { text = g.text; reaches = text_last g.reaches (λ z e. h.1 z (ap (drop b.at) g.text ∙ e)) })
 
 -- a branch: a piece, and a branch that is not nothing
-pub branch_goes : {old p new : Reader} {mid : List Row} → Goes ReadPiece old p → (Stops (drop p.at p.text.now) → ⊥) → Inserted p.rows old.count p.count (row 3 0 0) mid → new.text.now ≡ p.text.now → Reaches ReadBranch p.text.now p.at (p.count + 1) new.at new.count mid new.rows → Goes ReadBranch old new
-branch_goes {p = p} g s i e h = record {
-  text = e ∙ g.text;
-  reaches = branch_more g.reaches (λ k. s (subst (λ (w : List ℕ). Stops (drop p.at w)) (sym g.text) k)) i (moved_from g.text refl refl refl h);
+pub branch_goes : {old p u new : Reader} → Goes ReadPiece old p → (Stops (drop p.at p.text.now) → ⊥) → Grows p u old.count (row 3 0 0) → Goes ReadBranch u new → Goes ReadBranch old new
+branch_goes {p = p} g s i h = record {
+  text = h.text ∙ i.text ∙ g.text;
+  reaches = branch_more g.reaches (λ k. s (subst (λ (w : List ℕ). Stops (drop p.at w)) (sym g.text) k)) i.rows (moved_from (i.text ∙ g.text) i.read i.count refl h.reaches);
 }
 
-pub branch_stays : {old p : Reader} → Goes ReadPiece old p → (Stops (drop p.at p.text.now) → ⊥) → Refuses ReadBranch (drop p.at p.text.now) → Refuses ReadBranch (drop old.at old.text.now)
-branch_stays {p = p} g s h =
+pub branch_stays : {old p u : Reader} {at : ℕ} {r : Row} → Goes ReadPiece old p → (Stops (drop p.at p.text.now) → ⊥) → Grows p u at r → Refuses ReadBranch (drop u.at u.text.now) → Refuses ReadBranch (drop old.at old.text.now)
+branch_stays {p = p} g s i h =
     branch_refused_more g.reaches.reads (λ k. s (subst (λ (w : List ℕ). Stops (drop p.at w)) (sym g.text) k))
-    (subst (λ (w : List ℕ). Refuses ReadBranch (drop p.at w)) g.text h)
+    (subst (λ (w : List ℕ). Refuses ReadBranch (drop p.at w)) g.text (refused_before ReadBranch i h))
 
 pub branch_ends : {old p : Reader} → Goes ReadPiece old p → Stops (drop p.at p.text.now) → Goes ReadBranch old p
 branch_ends {p = p} g s = record { text = g.text; reaches = branch_last g.reaches (subst (λ (w : List ℕ). Stops (drop p.at w)) g.text s) }
 
 -- the stars behind a piece
-pub stars_go : {old t : Reader} {start to end : ℕ} {mid new : List Row} → Takes old t 42 → Inserted t.rows start t.count (row 4 0 0) mid → ((u : Tree) → t.count + 1 ≡ start + size u → Starred t.text.now start t.at to end mid new u) → (u : Tree) → old.count ≡ start + size u → Starred old.text.now start old.at to end old.rows new u
-stars_go {old} {t} {start} {to} {end} {mid} {new} k i g =
-    stars_next k.here (put_in k.moved.rows k.moved.count i)
-    (λ u c. subst (λ (w : List ℕ). Starred w start (old.at + 1) to end mid new u) k.moved.text (subst (λ (a : ℕ). Starred t.text.now start a to end mid new u) k.at (g u (ap (λ (c : ℕ). c + 1) k.moved.count ∙ c))))
+pub stars_go : {old t u : Reader} {start to end : ℕ} {new : List Row} → Takes old t 42 → Grows t u start (row 4 0 0) → ((v : Tree) → u.count ≡ start + size v → Starred u.text.now start u.at to end u.rows new v) → (v : Tree) → old.count ≡ start + size v → Starred old.text.now start old.at to end old.rows new v
+stars_go {old} {t} {u} {start} {to} {end} {new} k i g =
+    stars_next k.here (put_in k.moved.rows k.moved.count i.rows)
+    (λ v c. subst (λ (w : List ℕ). Starred w start (old.at + 1) to end u.rows new v) (i.text ∙ k.moved.text) (subst (λ (a : ℕ). Starred u.text.now start a to end u.rows new v) (i.read ∙ k.at) (g v (i.count ∙ ap (λ (c : ℕ). c + 1) k.moved.count ∙ c))))
 
 pub stars_end : {old new : Reader} {start : ℕ} → (new ≡ old) × ((z : List ℕ) → drop old.at old.text.now ≡ 42 ∷ z → ⊥) → (u : Tree) → old.count ≡ start + size u → Starred old.text.now start old.at new.at new.count old.rows new.rows u
 stars_end {old} {new} {start} h u e = subst (λ (r : Reader). Starred old.text.now start old.at r.at r.count old.rows r.rows u) (sym h.0) (stars_last h.1 u e)

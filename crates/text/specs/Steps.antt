@@ -1,12 +1,13 @@
 -- How each step of the reader changes it. Assumes nothing.
 use Rattle.std.specs.Prelude.{◌≡◌, ℕ, ◌+◌, ◌*◌, ◌<◌, ◌≤◌, List, ◌∷◌, drop, Result, MatchResult}
 use Rattle.rules.specs.declared.denial.Denial.{Denial}
+use Rattle.rules.specs.declared.row.Row.{Row}
 use Rattle.rules.specs.Trees.{Tree}
 use Rattle.rules.specs.Denials.{number}
 use Rattle.text.specs.declared.readers.Reader.{Reader}
 use Rattle.text.specs.declared.sign.Sign.{Sign}
 use Rattle.text.specs.Signs.{Signed, Unsigned}
-use Rattle.text.specs.Written.{Reaches, Refuses}
+use Rattle.text.specs.Written.{Inserted, Reaches, Refuses}
 
 -- there is room for one row more before the next byte is read
 abbrev pub HasRoom : Reader → Type 0
@@ -26,6 +27,13 @@ pub record Moved (old new : Reader) : Type 0 where
   pub text : new.text.now ≡ old.text.now
   pub count : new.count ≡ old.count
   pub rows : new.rows ≡ old.rows
+
+-- one row more, before those from `at` on
+pub record Grows (old new : Reader) (at : ℕ) (r : Row) : Type 0 where
+  pub text : new.text.now ≡ old.text.now
+  pub read : new.at ≡ old.at
+  pub count : new.count ≡ old.count + 1
+  pub rows : Inserted old.rows at old.count r new.rows
 
 -- the next byte is this one, and is read
 pub record Takes (old new : Reader) (byte : ℕ) : Type 0 where

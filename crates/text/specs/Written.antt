@@ -1,10 +1,10 @@
--- What the readers write into their scratch rows, and how far they come. Assumes nothing.
+-- What the readers write into the rows that they keep, and how far they come. Assumes nothing.
 use Rattle.std.specs.Prelude.{◌≡◌, ℕ, ◌+◌, ◌<◌, ◌≤◌, List, ◌++◌, length, drop, slice_index_or}
 use Rattle.rules.specs.declared.row.Row.{Row}
 use Rattle.rules.specs.Trees.{Tree, row, rows, size}
 use Rattle.text.specs.Readers.{Stars}
 
--- the scratch rows begin with the list, as far as they have room
+-- the rows kept begin with the list, as far as they have room
 abbrev pub Holds : List Row → List Row → Type 0
 Holds buffer list = (k : ℕ) → k < length list → k < 64 → slice_index_or buffer k (row 0 0 0) ≡ slice_index_or list k (row 0 0 0)
 

@@ -1,8 +1,8 @@
 #![tactic(auto)]
 
+mod kept;
 pub mod reader;
 mod readers;
-mod scratch;
 pub mod sign;
 pub mod theorems;
 

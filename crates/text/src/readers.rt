@@ -1,6 +1,6 @@
-ghost use Rattle.std.specs.Prelude.{◌≡◌, ℕ, ◌+◌, ◌*◌, ◌≤◌, length};
+ghost use Rattle.std.specs.Prelude.{◌+◌, ◌*◌, ◌≤◌, length};
 
-use crate::scratch::{insert, put};
+use crate::kept::{insert, put};
 use crate::sign::{Sign, next_sign, stands_at, stops_at};
 use rules::{Denial, Kind, Row};
 
@@ -20,11 +20,11 @@ pub(crate) struct Reader<'a> {
 }
 
 impl<'a> Reader<'a> {
-    ghost use Rattle.std.specs.Prelude.{◌≡◌, ℕ, ◌+◌, ◌*◌, ◌≤◌, true, false, List, ◌∷◌, ◌≢◌, length, take, drop, slice_set};
+    ghost use Rattle.std.specs.Prelude.{◌≡◌, ℕ, ◌+◌, ◌≤◌, true, false, List, ◌∷◌, ◌≢◌, length, take, drop, slice_set};
     ghost use Rattle.rules.specs.Trees.{Tree, row, size};
     ghost use Rattle.text.specs.Readers.{ReadText, ReadBranch, ReadPiece, ReadAtom};
     ghost use Rattle.text.specs.Written.{Starred};
-    ghost use Rattle.text.specs.Steps.{HasRoom, Reads, Takes, Signs};
+    ghost use Rattle.text.specs.Steps.{HasRoom, Grows, Reads, Takes, Signs};
 
     pub(crate) fn new(text: &'a [u8]) -> Reader<'a>
         requires { length text.now ≤ 200 }
@@ -48,6 +48,27 @@ impl<'a> Reader<'a> {
         &self.rows[..self.count]
     }
 
+    // One row more, behind the others; past the 64th it is only counted.
+    fn push(&mut self, row: Row)
+        requires { HasRoom self.old }
+        ensures text { self.new.text.now ≡ self.old.text.now }
+        ensures at { self.new.at ≡ self.old.at }
+        ensures count { self.new.count ≡ self.old.count + 1 }
+        ensures rows { self.new.rows ≡ slice_set self.old.rows self.old.count row }
+    {
+        put(&mut self.rows, self.count, row);
+        self.count += 1;
+    }
+
+    // One row more, before those from `at` on.
+    fn insert_at(&mut self, at: usize, row: Row)
+        requires { HasRoom self.old }
+        ensures { Grows self.old self.new at row }
+    {
+        insert(&mut self.rows, at, self.count, row);
+        self.count += 1;
+    }
+
     // A branch, or a branch, `|` and a text.
     #[cycle(readers)]
     pub(crate) fn text(&mut self) -> Result<(), Denial>
@@ -57,8 +78,7 @@ impl<'a> Reader<'a> {
         let start = self.count;
         self.branch()?;
         if self.take(b'|') {
-            insert(&mut self.rows, start, self.count, Row::from(Kind::Choice));
-            self.count += 1;
+            self.insert_at(start, Row::from(Kind::Choice));
             self.text()
         } else {
             Ok(())
@@ -72,8 +92,7 @@ impl<'a> Reader<'a> {
         ensures { Reads ReadBranch self.old self.new result }
     {
         if stops_at(self.text, self.at) {
-            put(&mut self.rows, self.count, Row::from(Kind::Empty));
-            self.count += 1;
+            self.push(Row::from(Kind::Empty));
             return Ok(());
         }
         let start = self.count;
@@ -81,8 +100,7 @@ impl<'a> Reader<'a> {
         if stops_at(self.text, self.at) {
             return Ok(());
         }
-        insert(&mut self.rows, start, self.count, Row::from(Kind::Sequence));
-        self.count += 1;
+        self.insert_at(start, Row::from(Kind::Sequence));
         self.branch()
     }
 
@@ -103,8 +121,7 @@ impl<'a> Reader<'a> {
         ensures read { (t : Tree) → self.old.count ≡ start + size t → Starred self.old.text.now start self.old.at self.new.at self.new.count self.old.rows self.new.rows t }
     {
         if self.take(b'*') {
-            insert(&mut self.rows, start, self.count, Row::from(Kind::Star));
-            self.count += 1;
+            self.insert_at(start, Row::from(Kind::Star));
             self.stars(start);
         }
     }
@@ -138,12 +155,7 @@ impl<'a> Reader<'a> {
         ensures count { self.new.count ≡ self.old.count + 1 }
         ensures rows { self.new.rows ≡ slice_set self.old.rows self.old.count (row 1 low high) }
     {
-        put(
-            &mut self.rows,
-            self.count,
-            Row::leaf(u32::from(low), u32::from(high)),
-        );
-        self.count += 1;
+        self.push(Row::leaf(u32::from(low), u32::from(high)));
     }
 
     // The next sign.

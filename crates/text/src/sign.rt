@@ -1,4 +1,4 @@
-ghost use Rattle.std.specs.Prelude.{◌≡◌, ℕ, ◌+◌, ◌<◌, ◌≤◌, true, false, List, ◌∷◌, length, drop, MatchResult, ◌≢◌};
+ghost use Rattle.std.specs.Prelude.{◌≡◌, ℕ, ◌+◌, ◌<◌, true, false, List, ◌∷◌, length, drop, MatchResult, ◌≢◌};
 ghost use Rattle.rules.specs.Denials.{number};
 ghost use Rattle.text.specs.Signs.{Signed, Unsigned, Stops};
 

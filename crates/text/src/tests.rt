@@ -1,5 +1,5 @@
 use crate::reader::read;
-use rules::{Kind, Row};
+use rules::{Denial, Kind, Row};
 use std::process::Abort;
 use std::test::Fail;
 
@@ -31,23 +31,12 @@ fn counts(rt: &impl Abort, text: &[u8], want: usize) -> Result<(), Fail> {
     Ok(())
 }
 
-// The text is denied by the number, and the rows lent stay.
-fn denies_with(rt: &impl Abort, text: &[u8], rows: &mut [Row], number: u8) -> Result<(), Fail> {
-    match read(text, rows) {
-        Ok(_) => Err(Fail::new("the text is read")),
-        Err(denial) => {
-            assert_eq!(rt; denial.number(), number);
-            assert!(rt; all_blank(rows));
-            Ok(())
-        }
-    }
-}
-
-// The same, with room for so many rows.
-fn denies(rt: &impl Abort, text: &[u8], room: usize, number: u8) -> Result<(), Fail> {
+// The text is denied for this, with room for so many rows, and the rows lent stay.
+fn denies(rt: &impl Abort, text: &[u8], room: usize, want: Denial) {
     let mut rows = [BLANK; 70];
     assert!(rt; room <= 70);
-    denies_with(rt, text, &mut rows[..room], number)
+    assert_eq!(rt; read(text, &mut rows[..room]), Err(want));
+    assert!(rt; all_blank(&rows[..room]));
 }
 
 #[test]
@@ -137,18 +126,18 @@ fn nesting(rt: HostRuntime) -> Result<(), Fail> {
 }
 
 #[test]
-fn not_derived(rt: HostRuntime) -> Result<(), Fail> {
-    denies(&rt, b"[z-a]", 70, 13)?;
-    denies(&rt, b"*a", 70, 13)?;
-    denies(&rt, b"a|*", 70, 13)?;
-    denies(&rt, b"(a", 70, 13)?;
-    denies(&rt, b"a)", 70, 13)?;
-    denies(&rt, b")", 70, 13)?;
-    denies(&rt, b"]", 70, 13)?;
-    denies(&rt, b"[a-", 70, 13)?;
-    denies(&rt, b"[a-b", 70, 13)?;
-    denies(&rt, b"[ab]", 70, 13)?;
-    denies(&rt, b"\\", 70, 13)
+fn not_derived(rt: HostRuntime) {
+    denies(&rt, b"[z-a]", 70, Denial::NotDerived);
+    denies(&rt, b"*a", 70, Denial::NotDerived);
+    denies(&rt, b"a|*", 70, Denial::NotDerived);
+    denies(&rt, b"(a", 70, Denial::NotDerived);
+    denies(&rt, b"a)", 70, Denial::NotDerived);
+    denies(&rt, b")", 70, Denial::NotDerived);
+    denies(&rt, b"]", 70, Denial::NotDerived);
+    denies(&rt, b"[a-", 70, Denial::NotDerived);
+    denies(&rt, b"[a-b", 70, Denial::NotDerived);
+    denies(&rt, b"[ab]", 70, Denial::NotDerived);
+    denies(&rt, b"\\", 70, Denial::NotDerived);
 }
 
 // 99 brackets around the letters, one of them open, and as many closed.
@@ -163,16 +152,22 @@ fn bracketed(letters: &[u8; 2]) -> [u8; 200] {
 #[test]
 fn limits(rt: HostRuntime) -> Result<(), Fail> {
     counts(&rt, &[b'a'; 32], 63)?;
-    denies(&rt, &[b'a'; 32], 62, 10)?;
-    denies(&rt, &[b'a'; 33], 70, 14)?;
-    denies(&rt, &[b'a'; 33], 0, 14)?;
+    denies(&rt, &[b'a'; 32], 62, Denial::AnswerTooLong);
+    denies(&rt, &[b'a'; 33], 70, Denial::TextRows);
+    denies(&rt, &[b'a'; 33], 0, Denial::TextRows);
     counts(&rt, b"a*aaaaaaaaaaaaaaaaaaaaaaaaaaaaaaa", 64)?;
-    denies(&rt, b"a**aaaaaaaaaaaaaaaaaaaaaaaaaaaaaaa", 70, 14)?;
+    denies(
+        &rt,
+        b"a**aaaaaaaaaaaaaaaaaaaaaaaaaaaaaaa",
+        70,
+        Denial::TextRows,
+    );
     counts(&rt, &bracketed(b"ab"), 3)?;
-    denies(&rt, &bracketed(b"a("), 70, 13)?;
-    denies(&rt, &[b'a'; 200], 70, 14)?;
-    denies(&rt, &[b'a'; 201], 70, 12)?;
-    denies(&rt, &[b')'; 201], 70, 12)?;
-    denies(&rt, &[b'('; 200], 70, 13)?;
-    denies(&rt, b"", 0, 10)
+    denies(&rt, &bracketed(b"a("), 70, Denial::NotDerived);
+    denies(&rt, &[b'a'; 200], 70, Denial::TextRows);
+    denies(&rt, &[b'a'; 201], 70, Denial::TextTooLong);
+    denies(&rt, &[b')'; 201], 70, Denial::TextTooLong);
+    denies(&rt, &[b'('; 200], 70, Denial::NotDerived);
+    denies(&rt, b"", 0, Denial::AnswerTooLong);
+    Ok(())
 }

@@ -34,7 +34,8 @@ impl Positions {
         next
     }
 
-    // The leaves reached from those of the set by the symbol. It takes what holders takes, being a holders of what follows.
+    // The leaves reached from those of the set by the symbol: of the leaves that follow one of the set, those that hold it.
+    // It takes what `holders` takes, which it calls; a struct for these two would be no plainer.
     fn step<A: Alphabet>(&self, alphabet: &A, set: u32, symbol: &A::Symbol) -> u32
         ensures { (t : Tree) → SetsOf t self.now → result ≡ step t set (λ lo hi. A.Alphabet.held alphabet.now lo hi symbol.now) }
     {
