@@ -40,7 +40,7 @@ pub(crate) fn compare_by<K: Fn(&Row, &Entry) -> Option<usize>>(
     first.cmp(second)
 }
 
-// The reading that no other is above, among those listed.
+// The reading that no other is above, among those listed. Proved is that it is one of them; that it is above is tested.
 pub fn best<'a, F: Fn(&[Entry], &[Entry]) -> Ordering>(
     compare: F,
     all: &'a [Reading],
