@@ -40,8 +40,8 @@ pub(crate) fn compare_by<K: Fn(&Row, &Entry) -> Option<usize>>(
     first.cmp(second)
 }
 
-// The reading that no other is above, among those listed. Inside the crate: it calls what it is given, so it has a `requires`, and
-// no public function has one.
+// The reading that no other is above, among those listed. Proved is that it is one of them; that none is above it is tested. Inside
+// the crate: it calls what it is given, so it has a `requires`, and no public function has one.
 pub(crate) fn best<'a, F: Fn(&[Entry], &[Entry]) -> Ordering>(
     compare: F,
     all: &'a [Reading],
