@@ -3,6 +3,7 @@ pub mod KindNumbers
 pub mod ByKind
 pub mod Framed
 pub mod Words
+pub mod Turns
 pub mod Places
 pub mod Unpacked
 pub mod Marks

@@ -85,7 +85,7 @@ impl<'a, A: Alphabet, P> Search<'a, A, P> {
         let first = spot.node + 1;
         let second = self.frame.second(spot.node);
         let splits = self.frame.splits(first, second, spot.start, spot.end);
-        for k in splits.start..splits.end {
+        for k in splits {
             let front = Spot {
                 node: first,
                 end: k,

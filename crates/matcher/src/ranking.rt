@@ -92,7 +92,7 @@ impl<'a, A: Alphabet, P: Policy> Search<'a, A, P> {
         let second = self.frame.second(spot.node);
         let splits = self.frame.splits(first, second, spot.start, spot.end);
         let mut best = None;
-        for k in splits.start..splits.end {
+        for k in splits {
             let front = Spot {
                 node: first,
                 end: k,

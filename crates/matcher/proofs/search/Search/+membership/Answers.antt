@@ -1,8 +1,8 @@
-use Rattle.std.proofs.Common.{◌+◌, ◌-◌, List, get_or, take, drop, sym, refl, subst, arith}
+use Rattle.std.proofs.Common.{ℕ, ◌+◌, ◌-◌, List, get_or, take, drop, sym, refl, subst, arith}
 use Rattle.rules.specs.declared.row.Row.{Row}
 use Rattle.rules.specs.Trees.{leaf, row}
 use Rattle.rules.specs.Languages.{Sight, seen}
-use Rattle.matcher.specs.States.{Says}
+use Rattle.matcher.specs.States.{Says, NoSplit}
 use Rattle.matcher.specs.Frames.{frame_rows}
 use Rattle.matcher.specs.Searches.{word}
 use Rattle.matcher.proofs.Framed.{frame_single}
@@ -10,6 +10,7 @@ use Rattle.matcher.proofs.Leaves.{part_seen}
 use Rattle.matcher.proofs.Marks.{room_kept}
 use Rattle.matcher.proofs.Words.{word_long}
 use Rattle.matcher.proofs.Answered.{told_lacks, told_has, told_marked, told_empty, told_leaf, both_not, both_so, either_first, either_second, pair_start, pair_end, pair_found, pair_more, pair_none, rounds_end, rounds_nothing, rounds_found, rounds_more, rounds_none}
+use Rattle.matcher.proofs.Turns.{left_all, turn_from, turn_below, turn_next, turn_left, turns_over}
 use Rattle.matcher.proofs.search.Search.+membership.Goals as goal
 
 pub has-returns-in-Lacks : goal.has-returns-in-Lacks
@@ -49,18 +50,26 @@ pub has_either-returns-else-has : goal.has_either-returns-else-has
 has_either-returns-else-has g t c = either_second c.args.self.now.frame (word c.args.self.now) c.args.spot c.requires.asked.on (word_long c.args.self.now) c.second.result c.second.ensures.is c.args.bench.now c.has.new.bench c.has-else-has.new.bench c.has.result c.has-else-has.result c.requires.kind c.if-has.false c.has.ensures c.has-else-has.ensures
 
 pub has_pair-loop-k-init : goal.has_pair-loop-k-init
-has_pair-loop-k-init g t c = pair_start c.args.self.now.frame (word c.args.self.now) c.args.spot c.requires.asked.on (word_long c.args.self.now) c.second-second.result c.second-second.ensures.is c.args.bench.now c.splits-splits.result.start c.splits-splits.result.end c.splits-splits.ensures c.requires.asked.sound
+has_pair-loop-k-init g t c = (left_all c.into_iter-k-iterator.result, pair_start c.args.self.now.frame (word c.args.self.now) c.args.spot c.requires.asked.on (word_long c.args.self.now) c.second-second.result c.second-second.ensures.is c.args.bench.now c.into_iter-k-iterator.result.start c.into_iter-k-iterator.result.end (rw c.into_iter-k-iterator.ensures.into_iter_gives c.splits-splits.ensures) c.requires.asked.sound)
 
 pub has_pair-returns-then-has_both : goal.has_pair-returns-then-has_both
-has_pair-returns-then-has_both g t c = pair_found c.args.self.now.frame (word c.args.self.now) c.args.spot c.requires.asked.on (word_long c.args.self.now) c.second-second.result c.second-second.ensures.is c.args.bench.now c.loop-k.bench c.has_both.new.bench c.loop-k.k c.has_both.result c.requires.kind
-    (omega (arith, c.loop-k.auto.k, c.splits-splits.ensures.from)) (omega (arith, c.loop-k-test.true, c.splits-splits.ensures.to)) c.if-has_both.true c.loop-k.invariant c.has_both.ensures
+has_pair-returns-then-has_both g t c =
+    let P : ℕ → Type 0 = λ k. NoSplit (frame_rows c.args.self.now.frame) (word c.args.self.now) c.args.self.now.frame.symbols c.args.bench.now c.loop-k.bench c.args.spot.node c.args.spot.start c.args.spot.end k in
+    pair_found c.args.self.now.frame (word c.args.self.now) c.args.spot c.requires.asked.on (word_long c.args.self.now) c.second-second.result c.second-second.ensures.is c.args.bench.now c.loop-k.bench c.has_both.new.bench c.in-Some.k c.has_both.result c.requires.kind
+    (omega (arith, turn_from c.into_iter-k-iterator.ensures.into_iter_gives c.loop-k.invariant.0 c.in-Some.ensures.steps, c.splits-splits.ensures.from)) (omega (arith, turn_below c.into_iter-k-iterator.ensures.into_iter_gives c.loop-k.invariant.0 c.in-Some.ensures.steps, c.splits-splits.ensures.to))
+    c.if-has_both.true (subst P (sym c.in-Some.ensures.steps.1.1) c.loop-k.invariant.1) c.has_both.ensures
 
 pub has_pair-loop-k-preserved : goal.has_pair-loop-k-preserved
-has_pair-loop-k-preserved g t c = pair_more c.args.self.now.frame (word c.args.self.now) c.args.spot c.requires.asked.on (word_long c.args.self.now) c.second-second.result c.second-second.ensures.is c.args.bench.now c.loop-k.bench c.has_both.new.bench c.loop-k.k c.has_both.result c.if-has_both.false c.loop-k.invariant c.has_both.ensures
+has_pair-loop-k-preserved g t c =
+    let P : ℕ → Type 0 = λ k. NoSplit (frame_rows c.args.self.now.frame) (word c.args.self.now) c.args.self.now.frame.symbols c.args.bench.now c.loop-k.bench c.args.spot.node c.args.spot.start c.args.spot.end k in
+    let Q : ℕ → Type 0 = λ k. NoSplit (frame_rows c.args.self.now.frame) (word c.args.self.now) c.args.self.now.frame.symbols c.args.bench.now c.has_both.new.bench c.args.spot.node c.args.spot.start c.args.spot.end k in (
+      turn_left c.into_iter-k-iterator.ensures.into_iter_gives c.loop-k.invariant.0 c.in-Some.ensures.steps,
+      subst Q (turn_next c.into_iter-k-iterator.ensures.into_iter_gives c.loop-k.invariant.0 c.in-Some.ensures.steps) (pair_more c.args.self.now.frame (word c.args.self.now) c.args.spot c.requires.asked.on (word_long c.args.self.now) c.second-second.result c.second-second.ensures.is c.args.bench.now c.loop-k.bench c.has_both.new.bench c.in-Some.k c.has_both.result c.if-has_both.false (subst P (sym c.in-Some.ensures.steps.1.1) c.loop-k.invariant.1) c.has_both.ensures),
+    )
 
 pub has_pair-returns : goal.has_pair-returns
 has_pair-returns g t c = pair_none c.args.self.now.frame (word c.args.self.now) c.args.spot c.requires.asked.on (word_long c.args.self.now) c.second-second.result c.second-second.ensures.is c.args.bench.now c.loop-k.bench (c.args.spot.end + 1) c.requires.kind (omega arith)
-    (pair_end c.args.self.now.frame (word c.args.self.now) c.args.spot c.requires.asked.on (word_long c.args.self.now) c.second-second.result c.second-second.ensures.is c.args.bench.now c.loop-k.bench c.splits-splits.result.start c.splits-splits.result.end c.loop-k.k c.splits-splits.ensures (omega (arith, c.loop-k-test.false)) c.loop-k.invariant)
+    (pair_end c.args.self.now.frame (word c.args.self.now) c.args.spot c.requires.asked.on (word_long c.args.self.now) c.second-second.result c.second-second.ensures.is c.args.bench.now c.loop-k.bench c.splits-splits.result.start c.splits-splits.result.end c.loop-k.k-iterator.start c.splits-splits.ensures (turns_over c.into_iter-k-iterator.ensures.into_iter_gives c.loop-k.invariant.0 c.in-None.ensures.steps) c.loop-k.invariant.1)
 
 pub has_rounds-returns-then-spot : goal.has_rounds-returns-then-spot
 has_rounds-returns-then-spot g t c = rounds_nothing c.args.self.now.frame (word c.args.self.now) c.args.spot c.requires.asked.on (word_long c.args.self.now) c.args.bench.now (omega (arith, c.requires.kind)) c.if-spot.true c.requires.asked.sound

@@ -1,4 +1,4 @@
-use Rattle.std.proofs.Common.{ℕ, ◌+◌, List, sym, refl, ◌∙◌, subst, arith}
+use Rattle.std.proofs.Common.{ℕ, ◌+◌, sym, refl, ◌∙◌, subst, arith}
 use Rattle.matcher.specs.Frames.{frame_rows, second_node}
 use Rattle.matcher.specs.Searches.{word, PreparedAt, GotAt}
 use Rattle.matcher.specs.Leaders.{leader_code}
@@ -8,8 +8,8 @@ use Rattle.matcher.proofs.KindNumbers.{no_choice, no_sequence}
 use Rattle.matcher.proofs.Words.{word_long}
 use Rattle.matcher.proofs.Alone.{alone_got}
 use Rattle.matcher.proofs.Solutions.{present_second, got_second, got_first, got_better, prepared_none, prepared_all, prepared_skip, prepared_solved, ready_at, settled_put}
+use Rattle.matcher.proofs.Turns.{left_all, turn_from, turn_below, turn_next, turn_left, turns_over}
 use Rattle.matcher.proofs.search.Search.+solving.Goals as goal
-use Rattle.matcher.proofs.search.Search.+solving.Goals.{solve_splits-then-has_both, solve_splits-else-has_both}
 
 pub best_code-best_split-requires-clause-ready : goal.best_code-best_split-requires-clause-ready
 best_code-best_split-requires-clause-ready g t c = ready_at (g.P.Policy.above c.args.self.now.policy.now) c.args.self.now.frame (word c.args.self.now) c.args.spot c.requires.sought.on (word_long c.args.self.now) (second_node c.args.self.now.frame c.args.spot.node) refl c.args.bench.now c.solve_splits.new.bench c.requires.present c.solve_splits.ensures
@@ -117,40 +117,50 @@ best_part-solve-requires-3 g t c κs within = (
 )
 
 pub solve_splits-loop-k-init : goal.solve_splits-loop-k-init
-solve_splits-loop-k-init g t c = prepared_none (g.P.Policy.above c.args.self.now.policy.now) c.args.self.now.frame (word c.args.self.now) c.args.spot c.requires.sought.on (word_long c.args.self.now) c.second-second.result c.second-second.ensures.is c.args.bench.now c.splits-splits.result.start c.splits-splits.result.end c.splits-splits.ensures c.requires.sought.right
+solve_splits-loop-k-init g t c = (left_all c.into_iter-k-iterator.result, prepared_none (g.P.Policy.above c.args.self.now.policy.now) c.args.self.now.frame (word c.args.self.now) c.args.spot c.requires.sought.on (word_long c.args.self.now) c.second-second.result c.second-second.ensures.is c.args.bench.now c.into_iter-k-iterator.result.start c.into_iter-k-iterator.result.end (rw c.into_iter-k-iterator.ensures.into_iter_gives c.splits-splits.ensures) c.requires.sought.right)
 
 pub solve_splits-solve-requires : goal.solve_splits-solve-requires
-solve_splits-solve-requires g t c κs within = (
-  omega (arith, c.decreases, c.requires.sought.on.node, c.requires.sought.laid.name_short, c.requires.sought.on.end, c.loop-k.auto.k, c.loop-k-test.true, c.splits-splits.ensures.from, c.splits-splits.ensures.to),
-  (
-    within.0,
-    (
-      within.1.0,
+solve_splits-solve-requires g t c κs within =
+    let from = turn_from c.into_iter-k-iterator.ensures.into_iter_gives c.loop-k.invariant.0 c.in-Some.ensures.steps in
+    let below = turn_below c.into_iter-k-iterator.ensures.into_iter_gives c.loop-k.invariant.0 c.in-Some.ensures.steps in (
+      omega (arith, c.decreases, c.requires.sought.on.node, c.requires.sought.laid.name_short, c.requires.sought.on.end, from, below, c.splits-splits.ensures.from, c.splits-splits.ensures.to),
       (
-        within.1.1,
+        within.0,
         (
-          record {
-            laid = room_kept _ _ c.args.bench.now c.has_both.new.bench (c.has_both.auto.bench ∙ c.loop-k.auto.bench) c.requires.sought.laid;
-            on = record { node = omega (arith, c.second-second.ensures.within.first_some, c.second-second.ensures.within.within); start = omega (arith, c.loop-k.auto.k, c.splits-splits.ensures.from); end = omega (arith, c.loop-k-test.true, c.splits-splits.ensures.to, c.requires.sought.on.end) };
-            right = right_both (g.P.Policy.above c.args.self.now.policy.now) (frame_rows c.args.self.now.frame) (word c.args.self.now) c.args.self.now.frame.symbols c.loop-k.bench c.has_both.new.bench (c.args.spot.node + 1) c.second-second.result c.args.spot.start c.loop-k.k c.args.spot.end c.has_both.result c.loop-k.invariant.right c.has_both.ensures;
-          },
-          c.has_both.ensures.first c.if-has_both.true,
+          within.1.0,
+          (
+            within.1.1,
+            (
+              record {
+                laid = room_kept _ _ c.args.bench.now c.has_both.new.bench (c.has_both.auto.bench ∙ c.loop-k.auto.bench) c.requires.sought.laid;
+                on = record { node = omega (arith, c.second-second.ensures.within.first_some, c.second-second.ensures.within.within); start = omega (arith, from, c.splits-splits.ensures.from); end = omega (arith, below, c.splits-splits.ensures.to, c.requires.sought.on.end) };
+                right = right_both (g.P.Policy.above c.args.self.now.policy.now) (frame_rows c.args.self.now.frame) (word c.args.self.now) c.args.self.now.frame.symbols c.loop-k.bench c.has_both.new.bench (c.args.spot.node + 1) c.second-second.result c.args.spot.start c.in-Some.k c.args.spot.end c.has_both.result c.loop-k.invariant.1.right c.has_both.ensures;
+              },
+              c.has_both.ensures.first c.if-has_both.true,
+            ),
+          ),
         ),
       ),
-    ),
-  ),
-)
+    )
+
+pub solve_splits-loop-k-preserved-then-has_both : goal.solve_splits-loop-k-preserved-then-has_both
+solve_splits-loop-k-preserved-then-has_both g t c =
+    let P : ℕ → Type 0 = λ k. PreparedAt (g.P.Policy.above c.args.self.now.policy.now) c.args.self.now.frame (word c.args.self.now) c.args.bench.now c.loop-k.bench c.args.spot k in
+    let Q : ℕ → Type 0 = λ k. PreparedAt (g.P.Policy.above c.args.self.now.policy.now) c.args.self.now.frame (word c.args.self.now) c.args.bench.now c.solve-then-has_both.new.bench c.args.spot k in (
+      turn_left c.into_iter-k-iterator.ensures.into_iter_gives c.loop-k.invariant.0 c.in-Some.ensures.steps,
+      subst Q (turn_next c.into_iter-k-iterator.ensures.into_iter_gives c.loop-k.invariant.0 c.in-Some.ensures.steps) (prepared_solved (g.P.Policy.above c.args.self.now.policy.now) c.args.self.now.frame (word c.args.self.now) c.args.spot c.requires.sought.on (word_long c.args.self.now) c.second-second.result c.second-second.ensures.is c.args.bench.now c.loop-k.bench c.has_both.new.bench c.solve.new.bench c.solve-then-has_both.new.bench c.in-Some.k c.has_both.result (subst P (sym c.in-Some.ensures.steps.1.1) c.loop-k.invariant.1) c.has_both.ensures c.solve.ensures c.solve-then-has_both.ensures),
+    )
 
 pub solve_splits-loop-k-preserved : goal.solve_splits-loop-k-preserved
 solve_splits-loop-k-preserved g t c =
-    let P : List ℕ → Type 0 = λ x. PreparedAt (g.P.Policy.above c.args.self.now.policy.now) c.args.self.now.frame (word c.args.self.now) c.args.bench.now x c.args.spot (c.loop-k.k + 1) in
-    elim c.if-has_both.branch [
-      | solve_splits-then-has_both w ↦ subst P (sym w.bench-is) (prepared_solved (g.P.Policy.above c.args.self.now.policy.now) c.args.self.now.frame (word c.args.self.now) c.args.spot c.requires.sought.on (word_long c.args.self.now) c.second-second.result c.second-second.ensures.is c.args.bench.now c.loop-k.bench c.has_both.new.bench w.solve.new.bench w.solve-then-has_both.new.bench c.loop-k.k c.has_both.result c.loop-k.invariant c.has_both.ensures w.solve.ensures w.solve-then-has_both.ensures)
-      | solve_splits-else-has_both w ↦ subst P (sym w.bench-is) (prepared_skip (g.P.Policy.above c.args.self.now.policy.now) c.args.self.now.frame (word c.args.self.now) c.args.spot c.requires.sought.on (word_long c.args.self.now) c.second-second.result c.second-second.ensures.is c.args.bench.now c.loop-k.bench c.has_both.new.bench c.loop-k.k c.has_both.result w.if-has_both.false c.loop-k.invariant c.has_both.ensures)
-    ]
+    let P : ℕ → Type 0 = λ k. PreparedAt (g.P.Policy.above c.args.self.now.policy.now) c.args.self.now.frame (word c.args.self.now) c.args.bench.now c.loop-k.bench c.args.spot k in
+    let Q : ℕ → Type 0 = λ k. PreparedAt (g.P.Policy.above c.args.self.now.policy.now) c.args.self.now.frame (word c.args.self.now) c.args.bench.now c.has_both.new.bench c.args.spot k in (
+      turn_left c.into_iter-k-iterator.ensures.into_iter_gives c.loop-k.invariant.0 c.in-Some.ensures.steps,
+      subst Q (turn_next c.into_iter-k-iterator.ensures.into_iter_gives c.loop-k.invariant.0 c.in-Some.ensures.steps) (prepared_skip (g.P.Policy.above c.args.self.now.policy.now) c.args.self.now.frame (word c.args.self.now) c.args.spot c.requires.sought.on (word_long c.args.self.now) c.second-second.result c.second-second.ensures.is c.args.bench.now c.loop-k.bench c.has_both.new.bench c.in-Some.k c.has_both.result c.if-has_both.false (subst P (sym c.in-Some.ensures.steps.1.1) c.loop-k.invariant.1) c.has_both.ensures),
+    )
 
 pub solve_splits-returns : goal.solve_splits-returns
-solve_splits-returns g t c = prepared_all (g.P.Policy.above c.args.self.now.policy.now) c.args.self.now.frame (word c.args.self.now) c.args.spot c.requires.sought.on (word_long c.args.self.now) c.second-second.result c.second-second.ensures.is c.args.bench.now c.loop-k.bench c.splits-splits.result.start c.splits-splits.result.end c.loop-k.k c.splits-splits.ensures c.loop-k-test.false c.loop-k.invariant
+solve_splits-returns g t c = prepared_all (g.P.Policy.above c.args.self.now.policy.now) c.args.self.now.frame (word c.args.self.now) c.args.spot c.requires.sought.on (word_long c.args.self.now) c.second-second.result c.second-second.ensures.is c.args.bench.now c.loop-k.bench c.splits-splits.result.start c.splits-splits.result.end c.loop-k.k-iterator.start c.splits-splits.ensures (turns_over c.into_iter-k-iterator.ensures.into_iter_gives c.loop-k.invariant.0 c.in-None.ensures.steps) c.loop-k.invariant.1
 
 pub solve-returns : goal.solve-returns
 solve-returns g t c = settled_put (g.P.Policy.above c.args.self.now.policy.now) c.args.self.now.frame (word c.args.self.now) c.args.spot c.requires.sought.on c.args.bench.now c.best_code-code.new.bench c.put.new.bench c.best_code-code.result
