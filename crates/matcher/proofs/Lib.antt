@@ -4,6 +4,7 @@ pub mod ByKind
 pub mod Framed
 pub mod Words
 pub mod Turns
+pub mod SpotParts
 pub mod Places
 pub mod Unpacked
 pub mod Marks

@@ -64,14 +64,7 @@ impl<'a, A: Alphabet, P> Search<'a, A, P> {
         requires kind { frame_kind self.now.frame spot.node ≡ 2 }
         ensures { ToldAt self.now.frame (word self.now) bench.old bench.new spot result }
     {
-        let first = Spot {
-            node: spot.node + 1,
-            ..spot
-        };
-        let second = Spot {
-            node: self.frame.second(spot.node),
-            ..spot
-        };
+        let (first, second) = self.frame.parts(spot);
         self.has(bench, first) || self.has(bench, second)
     }
 
@@ -82,21 +75,12 @@ impl<'a, A: Alphabet, P> Search<'a, A, P> {
         requires kind { frame_kind self.now.frame spot.node ≡ 3 }
         ensures { ToldAt self.now.frame (word self.now) bench.old bench.new spot result }
     {
-        let first = spot.node + 1;
-        let second = self.frame.second(spot.node);
-        let splits = self.frame.splits(first, second, spot.start, spot.end);
+        let (first, second) = self.frame.parts(spot);
+        let splits = self
+            .frame
+            .splits(first.node, second.node, spot.start, spot.end);
         for k in splits {
-            let front = Spot {
-                node: first,
-                end: k,
-                ..spot
-            };
-            let back = Spot {
-                node: second,
-                start: k,
-                ..spot
-            };
-            if self.has_both(bench, front, back) {
+            if self.has_both(bench, first.front(k), second.back(k)) {
                 return true;
             }
         }
@@ -113,15 +97,15 @@ impl<'a, A: Alphabet, P> Search<'a, A, P> {
         if spot.start == spot.end {
             return true;
         }
-        let round = spot.node + 1;
-        let splits = self.frame.splits(round, spot.node, spot.start, spot.end);
+        let round = Spot {
+            node: spot.node + 1,
+            ..spot
+        };
+        let splits = self
+            .frame
+            .splits(round.node, spot.node, spot.start, spot.end);
         for k in spot.start + 1..splits.end {
-            let front = Spot {
-                node: round,
-                end: k,
-                ..spot
-            };
-            if self.has_both(bench, front, Spot { start: k, ..spot }) {
+            if self.has_both(bench, round.front(k), spot.back(k)) {
                 return true;
             }
         }

@@ -88,22 +88,13 @@ impl<'a, A: Alphabet, P: Policy> Search<'a, A, P> {
         requires ready { ReadyAt (P.Policy.above self.now.policy.now) self.now.frame (word self.now) bench.now spot }
         ensures { CodedAt (P.Policy.above self.now.policy.now) self.now.frame (word self.now) bench.now spot result }
     {
-        let first = spot.node + 1;
-        let second = self.frame.second(spot.node);
-        let splits = self.frame.splits(first, second, spot.start, spot.end);
+        let (first, second) = self.frame.parts(spot);
+        let splits = self
+            .frame
+            .splits(first.node, second.node, spot.start, spot.end);
         let mut best = None;
         for k in splits {
-            let front = Spot {
-                node: first,
-                end: k,
-                ..spot
-            };
-            let back = Spot {
-                node: second,
-                start: k,
-                ..spot
-            };
-            if self.frame.both_coded(bench, front, back) {
+            if self.frame.both_coded(bench, first.front(k), second.back(k)) {
                 let code = (k - spot.start + 1) as u8;
                 best = Some(match best {
                     Some(leader) => self.better(bench, spot, leader, code, pad),

@@ -6,7 +6,7 @@ ghost use Rattle.matcher.specs.Frames.{frame_rows, frame_kind, second_node};
 ghost use Rattle.rules.specs.Nodes.{Stands};
 ghost use Rattle.matcher.specs.Sizes.{Sized, SizedFrom, Paired, PairRoom};
 
-use super::Frame;
+use super::{Frame, Spot};
 use rules::{Kind, Row, Rule};
 
 // The kind of a rule's node.
@@ -85,5 +85,24 @@ impl<'a> Frame<'a> {
         ensures within { PairRoom (frame_rows self.now) self.now.sizes node }
     {
         node + 1 + self.sizes[node + 1] as usize
+    }
+
+    // The two parts of a choice or a sequence, on the node's own stretch.
+    pub(crate) fn parts(&self, spot: Spot) -> (Spot, Spot)
+        requires inside { spot.node < length (frame_rows self.now) }
+        requires pair { Paired (frame_kind self.now spot.node) }
+        ensures first { result.0 ≡ record spot { node = spot.node + 1 } }
+        ensures second { result.1 ≡ record spot { node = second_node self.now spot.node } }
+        ensures within { PairRoom (frame_rows self.now) self.now.sizes spot.node }
+    {
+        let first = Spot {
+            node: spot.node + 1,
+            ..spot
+        };
+        let second = Spot {
+            node: self.second(spot.node),
+            ..spot
+        };
+        (first, second)
     }
 }

@@ -31,7 +31,7 @@ decreases-has_both g l = max (fall l.self.now.frame l.first) (fall l.self.now.fr
 abbrev pub invariant-has_pair-loop-k : goal.invariant-has_pair-loop-k
 invariant-has_pair-loop-k g l =
     Left l.initial.k-iterator l.k-iterator
-    × NoSplit (frame_rows l.self.frame) (word l.self) l.self.frame.symbols l.initial.bench l.bench l.spot.node l.spot.start l.spot.end l.k-iterator.start
+    × NoSplit (frame_rows l.self.frame) (word l.self) l.self.frame.symbols l.initial.bench l.bench l.fn.spot.node l.fn.spot.start l.fn.spot.end l.k-iterator.start
 
 abbrev pub invariant-has_rounds-loop-k : goal.invariant-has_rounds-loop-k
 invariant-has_rounds-loop-k g l = NoRound (frame_rows l.self.frame) (word l.self) l.self.frame.symbols l.initial.bench l.bench l.spot.node l.spot.start l.spot.end l.k

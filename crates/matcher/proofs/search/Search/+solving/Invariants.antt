@@ -24,4 +24,4 @@ decreases-solve_splits g l = fall l.self.now.frame l.spot + 1
 abbrev pub invariant-solve_splits-loop-k : goal.invariant-solve_splits-loop-k
 invariant-solve_splits-loop-k g l =
     Left l.initial.k-iterator l.k-iterator
-    × PreparedAt (g.P.Policy.above l.self.policy.now) l.self.frame (word l.self) l.initial.bench l.bench l.spot l.k-iterator.start
+    × PreparedAt (g.P.Policy.above l.self.policy.now) l.self.frame (word l.self) l.initial.bench l.bench l.fn.spot l.k-iterator.start

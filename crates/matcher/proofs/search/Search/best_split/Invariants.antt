@@ -7,5 +7,5 @@ use Rattle.matcher.proofs.search.Search.best_split.Given as goal
 abbrev pub invariant-loop-k : goal.invariant-loop-k
 invariant-loop-k g l =
     Left l.initial.k-iterator l.k-iterator
-    × BestBelowAt (g.P.Policy.above l.self.policy.now) l.self.frame (word l.self) l.bench l.spot l.k-iterator.start (best_code l.best)
-    × BestShown l.self.frame l.bench l.spot l.best (take (get_or l.self.frame.sizes l.spot.node 0) l.pad.best)
+    × BestBelowAt (g.P.Policy.above l.self.policy.now) l.self.frame (word l.self) l.bench l.fn.spot l.k-iterator.start (best_code l.best)
+    × BestShown l.self.frame l.bench l.fn.spot l.best (take (get_or l.self.frame.sizes l.fn.spot.node 0) l.pad.best)
