@@ -4,7 +4,7 @@ use native.Mathlib.Decide.{ℕ_discrete}
 use borrow.Author.Tests.{eqb-false}
 use Rattle.rules.specs.declared.row.Row.{Row}
 use Rattle.rules.specs.Trees.{Tree, leaf, sequence, star, size, row}
-use Rattle.rules.specs.Languages.{Sight, In, in_first, in_second, part}
+use Rattle.rules.specs.Languages.{Sight, in_first, in_second, part}
 use Rattle.rules.proofs.Parts.{empty_parts, choice_parts, sequence_split, sequence_join, star_split, star_join, star_parts}
 use Rattle.matcher.specs.declared.frame.Frame.{Frame}
 use Rattle.matcher.specs.declared.frame.Spot.{Spot}
@@ -15,6 +15,7 @@ use Rattle.matcher.specs.Unpacking.{place, cell}
 use Rattle.matcher.specs.Benches.{Sound}
 use Rattle.matcher.specs.States.{Says, Reach, Told, BothTold, NoSplit, NoRound}
 use Rattle.rules.proofs.Nodes.{stands_head, choice_first, choice_second, sequence_first, sequence_second, star_part}
+use Rattle.matcher.proofs.Halves.{front_moved, back_moved}
 use Rattle.matcher.proofs.Nodes.{kind_at}
 use Rattle.matcher.proofs.Framed.{framed}
 use Rattle.matcher.proofs.Places.{place_in}
@@ -43,9 +44,6 @@ module _ (f : Frame) (w : List Sight) (bs one : List ℕ) (s s' : Spot) (meet : 
         second = λ x p h. (u.says p h).has x;
         neither = λ x p q h h' a b. (u.says q h').lacks x b;
       }
-
-moved_in : (s : Tree) (x y : List Sight) → x ≡ y → In s x → In s y
-moved_in s x y e h = let P : List Sight → Type 0 = λ z. In s z in subst P e h
 
 module _ (f : Frame) (w : List Sight) (s : Spot) (on : On f s) where
   abbrev rs : List Row
@@ -153,7 +151,7 @@ module _ (f : Frame) (w : List Sight) (s : Spot) (on : On f s) where
       marked = marked_on bs one two f.marked t.marked;
       none = λ p q h d a b x y. elim (ℕ_discrete d k) [
         | yes z ↦ (let c = sequence_first rs m p q h in
-            t.neither e p q c (second_at p q c (sequence_second rs m p q h)) (moved_in p (part w i d) (part w i k) (ap (λ v. part w i v) z) x) (moved_in q (part w d j) (part w k j) (ap (λ v. part w v j) z) y))
+            t.neither e p q c (second_at p q c (sequence_second rs m p q h)) (front_moved w z p i x) (back_moved w z q j y))
         | no z ↦ f.none p q h d a (omega arith) x y
       ];
     }
@@ -204,7 +202,7 @@ module _ (f : Frame) (w : List Sight) (s : Spot) (on : On f s) where
       sound = t.sound;
       marked = marked_on bs one two f.marked t.marked;
       none = λ p h d a b x y. elim (ℕ_discrete d k) [
-        | yes z ↦ t.neither e p (star p) (star_part rs m p h) h (moved_in p (part w i d) (part w i k) (ap (λ v. part w i v) z) x) (moved_in (star p) (part w d j) (part w k j) (ap (λ v. part w v j) z) y)
+        | yes z ↦ t.neither e p (star p) (star_part rs m p h) h (front_moved w z p i x) (back_moved w z (star p) j y)
         | no z ↦ f.none p h d a (omega arith) x y
       ];
     }

@@ -5,6 +5,7 @@ pub mod Framed
 pub mod Words
 pub mod Turns
 pub mod SpotParts
+pub mod Halves
 pub mod Places
 pub mod Unpacked
 pub mod Marks

@@ -17,6 +17,7 @@ use Rattle.matcher.specs.Unpacking.{place, cell, unpacked}
 use Rattle.matcher.specs.Benches.{Grown, Held, Solved, Right}
 use Rattle.matcher.specs.States.{Reach, Told, BothTold, Present, Keeps, Settled, Got, BothCoded, Prepared, Ready}
 use Rattle.rules.proofs.Nodes.{choice_first, choice_second, sequence_first, sequence_second}
+use Rattle.matcher.proofs.Halves.{front_moved, back_moved}
 use Rattle.matcher.proofs.Nodes.{kind_at, found}
 use Rattle.matcher.proofs.Framed.{framed}
 use Rattle.matcher.proofs.Places.{place_in}
@@ -155,9 +156,6 @@ module _ (above : Order) (f : Frame) (w : List Sight) (s : Spot) (on : On f s) w
     after_at : (p q : Tree) → Stands rs m (sequence p q) → Stands rs after q
     after_at p q h = let P : ℕ → Type 0 = λ k. Stands rs k q in subst P (sym (is ∙ ap (λ k. m + 1 + k) (sized.sizes (m + 1) p (omega arith) (sequence_first rs m p q h)))) (sequence_second rs m p q h)
 
-    moved_in : (s : Tree) (x y : List Sight) → x ≡ y → In s x → In s y
-    moved_in s x y e h = let P : List Sight → Type 0 = λ z. In s z in subst P e h
-
     pub prepared_none : (bs : List ℕ) (a b : ℕ) → Reach rs (m + 1) after i j a b → Right above rs w n bs → Below bs bs a
     prepared_none bs a b f r = record {
       right = r;
@@ -182,7 +180,7 @@ module _ (above : Order) (f : Frame) (w : List Sight) (s : Spot) (on : On f s) w
       grown = grown_on bs one two past.grown g;
       coded = λ p q h d x y c z. elim (ℕ_discrete d k) [
         | yes e ↦ (let P : ℕ → Type 0 = λ v. BothCoded n two (m + 1) (second_node f m) i v j in
-            subst P (sym e) (new p q h (moved_in p (part w i d) (part w i k) (ap (λ v. part w i v) e) c) (moved_in q (part w d j) (part w k j) (ap (λ v. part w v j) e) z)))
+            subst P (sym e) (new p q h (front_moved w e p i c) (back_moved w e q j z)))
         | no e ↦ coded_on n one two (m + 1) (second_node f m) i d j g (past.coded p q h d x (omega arith) c z)
       ];
     }

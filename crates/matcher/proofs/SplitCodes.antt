@@ -16,6 +16,7 @@ use Rattle.matcher.specs.Frames.{frame_rows, second_node, On}
 use Rattle.matcher.specs.Unpacking.{cell, unpacked}
 use Rattle.matcher.specs.Benches.{Grown, AtLeast, Held}
 use Rattle.matcher.specs.States.{Reach, Keeps, Coded, BothCoded, Ready, BestBelow}
+use Rattle.matcher.proofs.Halves.{front_moved, back_moved}
 use Rattle.matcher.proofs.Framed.{framed}
 use Rattle.rules.proofs.Nodes.{sequence_first, sequence_second}
 use Rattle.matcher.proofs.Nodes.{Found, found, kind_at}
@@ -166,9 +167,6 @@ module _ (above : Order) (decided : Decided above) (replaced : Replaced above) (
         outranks = λ t e p q c d y z x f ry rz. let o = read_inside t e p q c d y z x ry rz in s.outranks t e p q c d y z x (omega (arith, o.1)) ry rz;
       }
 
-    moved_in : (s : Tree) (x y : List Sight) → x ≡ y → In s x → In s y
-    moved_in s x y e h = let P : List Sight → Type 0 = λ z. In s z in subst P e h
-
     -- a split that has not both codes has not both halves
     pub below_skip : (k r : ℕ) → k ≤ j → (BothCoded n bs (m + 1) second i k j → ⊥) → Below k r → Below (k + 1) r
     below_skip k r y f s = record {
@@ -181,7 +179,7 @@ module _ (above : Order) (decided : Decided above) (replaced : Replaced above) (
     }
       where
         lost : (p q : Tree) → Stands rs m (sequence p q) → (d : ℕ) → i ≤ d → d ≡ k → In p (part w i d) → In q (part w d j) → ⊥
-        lost p q h d x e c z = f (ready.coded p q h k (omega arith) y (moved_in p (part w i d) (part w i k) (ap (λ v. part w i v) e) c) (moved_in q (part w d j) (part w k j) (ap (λ v. part w v j) e) z))
+        lost p q h d x e c z = f (ready.coded p q h k (omega arith) y (front_moved w e p i c) (back_moved w e q j z))
 
     module _ (k r v : ℕ) (x : i ≤ k) (y : k ≤ j) (coded : BothCoded n bs (m + 1) second i k j) (below : Below k r)
         (either : (v ≡ r) ⊎ (v ≡ k - i + 1)) (none : r ≡ 0 → v ≡ k - i + 1) (keeps : Keeps above rs n bs m i j r (k - i + 1) v) where

@@ -23,9 +23,6 @@ module _ {X : Type 0} (xs : List X) (x : X) (ys zs : List X) (a b : ℕ) (long :
       let k : ℕ = 1 + a - 1 in
       omega (arith, length-append (take 1 (set xs 0 x)) (ys ++ drop k (drop 1 (set xs 0 x))), length-append ys (drop k (drop 1 (set xs 0 x))), length-take 1 (set xs 0 x), length-drop k (drop 1 (set xs 0 x)), length-drop 1 (set xs 0 x), length-set xs 0 x)
 
-  pub second_fits : length ys ≡ a → 1 + a ≤ length (put_mid 1 (1 + a - 1) (set xs 0 x) ys)
-  second_fits e = omega (arith, half_long e)
-
 take_head : {X : Type 0} (x : X) (ys r : List X) (a : ℕ) → length ys ≡ a → take (1 + a) (x ∷ (ys ++ r)) ≡ x ∷ ys
 take_head {X} x ys r a e = rw one-add (ap (λ (l : List X). x ∷ l) (take_at ys r a e))
 
