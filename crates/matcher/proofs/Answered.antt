@@ -1,11 +1,14 @@
 -- Whether a node has a stretch, from what its parts have.
-use Rattle.std.proofs.Common.{◌≡◌, ℕ, ◌+◌, ◌<◌, ◌≤◌, Bool, true, false, eqb, List, length, get_or, set, sym, refl, ap, ◌∙◌, subst, inl, inr, arith, eqb-true}
+use Rattle.std.proofs.Common.{◌≡◌, ℕ, ◌+◌, ◌<◌, ◌≤◌, Bool, true, false, eqb, ◌⊎◌, List, length, get_or, set, sym, ◌≢◌, refl, ap, ◌∙◌, subst, inl, inr, arith, eqb-true}
 use native.Mathlib.Decide.{ℕ_discrete}
 use borrow.Author.Tests.{eqb-false}
 use Rattle.rules.specs.declared.row.Row.{Row}
 use Rattle.rules.specs.Trees.{Tree, leaf, sequence, star, size, row}
 use Rattle.rules.specs.Languages.{Sight, in_first, in_second, part}
 use Rattle.rules.proofs.Parts.{empty_parts, choice_parts, sequence_split, sequence_join, star_split, star_join, star_parts}
+use Rattle.matcher.specs.declared.bench.Cell.{Cell}
+use Rattle.matcher.specs.declared.bench.Cell.TheVariants.{Has, Code}
+use Rattle.matcher.specs.Cells.{CellOf}
 use Rattle.matcher.specs.declared.frame.Frame.{Frame}
 use Rattle.matcher.specs.declared.frame.Spot.{Spot}
 use Rattle.rules.specs.Nodes.{Stands}
@@ -27,6 +30,10 @@ pub leaf_value : (rs : List Row) (m : ℕ) (x : List Sight) → kind_at rs m ≡
 leaf_value rs m x k r t = by_leaf rs m (λ s. Says s x r) k (λ lo hi h.
     let P : Row → Type 0 = λ y. Says (leaf y.lo y.hi) x r in
     subst P (stands_head rs m (leaf lo hi) h (row 0 0 0)) t)
+
+pub not_lacking : (x : Cell) (n : ℕ) → CellOf n x → (x ≡ Has) ⊎ ((c : ℕ) × (x ≡ Code c)) → (n ≢ 255) × (n ≢ 0)
+not_lacking x n h (inl e) = let k = subst (CellOf n) e h in (λ y. absurd (omega (arith, k, y)), λ y. absurd (omega (arith, k, y)))
+not_lacking x n h (inr e) = let k = subst (CellOf n) e.1 h in (λ y. absurd (omega (arith, k.2, y)), λ y. absurd (omega (arith, k.1, y)))
 
 -- both halves
 module _ (f : Frame) (w : List Sight) (bs one : List ℕ) (s s' : Spot) (meet : s.end ≡ s'.start) where

@@ -32,7 +32,7 @@ fn fits(nodes: usize, symbols: usize, bench: usize, report: usize) -> bool
     symbols <= LONGEST && nodes * (symbols + 1) * (symbols + 1) <= bench && nodes <= report
 }
 
-impl<'a, A: Alphabet, P: Policy> Search<'a, A, P> {
+impl<A: Alphabet, P: Policy> Search<'_, A, P> {
     // Writes the best reading of the whole name, if there is one.
     fn read_whole(
         &self,

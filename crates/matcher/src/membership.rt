@@ -1,4 +1,4 @@
-ghost use Rattle.std.specs.Prelude.{◌≡◌, ◌<◌, ◌≤◌};
+ghost use Rattle.std.specs.Prelude.{◌≡◌};
 ghost use Rattle.rules.specs.Trees.{leaf};
 ghost use Rattle.rules.specs.Languages.{seen};
 ghost use Rattle.matcher.specs.Frames.{frame_kind};
@@ -20,7 +20,7 @@ fn leaf_has<A: Alphabet>(alphabet: &A, row: Row, stretch: &[A::Symbol]) -> bool
     }
 }
 
-impl<'a, A: Alphabet, P> Search<'a, A, P> {
+impl<A: Alphabet, P> Search<'_, A, P> {
     // Whether the node has the stretch.
     #[cycle(membership)]
     pub(crate) fn has(&self, bench: &mut [u8], spot: Spot) -> bool
@@ -29,8 +29,7 @@ impl<'a, A: Alphabet, P> Search<'a, A, P> {
     {
         match self.frame.look(bench, spot) {
             Cell::Lacks => false,
-            Cell::Has => true,
-            Cell::Code(_) => true,
+            Cell::Has | Cell::Code(_) => true,
             Cell::Unknown => {
                 let found = self.has_anew(bench, spot);
                 self.frame.mark(bench, spot, found);

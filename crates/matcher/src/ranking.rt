@@ -27,13 +27,12 @@ impl Leader {
         ensures { result ≡ leader_code self }
     {
         match self {
-            Leader::Alone(code) => code,
-            Leader::Shown(code) => code,
+            Leader::Alone(code) | Leader::Shown(code) => code,
         }
     }
 }
 
-impl<'a, A: Alphabet, P: Policy> Search<'a, A, P> {
+impl<A: Alphabet, P: Policy> Search<'_, A, P> {
     // Of two codes of a spot, the one whose reading outranks.
     pub(crate) fn better(
         &self,

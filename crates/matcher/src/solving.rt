@@ -10,7 +10,7 @@ use policies::Policy;
 use rules::{Alphabet, Kind};
 
 // Bench and pad stay two parameters, since `has` takes the bench alone.
-impl<'a, A: Alphabet, P: Policy> Search<'a, A, P> {
+impl<A: Alphabet, P: Policy> Search<'_, A, P> {
     // Finds the code of the best reading of a stretch that the node has.
     #[cycle(solving)]
     pub(crate) fn solve(&self, bench: &mut [u8], pad: &mut Pad, spot: Spot)
@@ -38,7 +38,7 @@ impl<'a, A: Alphabet, P: Policy> Search<'a, A, P> {
                 self.solve_splits(bench, pad, spot);
                 self.best_split(bench, spot, pad)
             }
-            _ => 1,
+            Kind::Empty | Kind::Leaf | Kind::Star => 1,
         }
     }
 

@@ -43,7 +43,7 @@ fn shares(
     }
 }
 
-impl<'a> Frame<'a> {
+impl Frame<'_> {
     // The byte of the cell for a node's stretch, or 0 where it has none.
     fn code_at(&self, bench: &[u8], node: usize, stretch: Option<(usize, usize)>) -> u8
         requires room { Laid self.now bench.now }
@@ -77,7 +77,7 @@ impl<'a> Frame<'a> {
         match self.kind(node) {
             Kind::Empty | Kind::Leaf => {}
             Kind::Star => self.unpack(bench, node + 1, None, 0, &mut out[1..]),
-            kind => {
+            kind @ (Kind::Choice | Kind::Sequence) => {
                 let first = node + 1;
                 let second = self.second(node);
                 let size = self.sizes[first] as usize;

@@ -1,7 +1,7 @@
-ghost use Rattle.std.specs.Prelude.{◌≡◌, ◌+◌, ◌<◌, ◌≤◌, length, slice_index, slice_index_or};
+ghost use Rattle.std.specs.Prelude.{◌≡◌, ◌+◌, ◌<◌, ◌≤◌, length, slice_index_or};
 ghost use Rattle.rules.specs.Kinds.{kind_number};
 ghost use Rattle.rules.specs.Trees.{Tree, row as Line, size};
-ghost use Rattle.rules.specs.RuleRows.{Ruled, rule_rows};
+ghost use Rattle.rules.specs.RuleRows.{rule_rows};
 ghost use Rattle.matcher.specs.Frames.{frame_rows, frame_kind, second_node};
 ghost use Rattle.rules.specs.Nodes.{Stands};
 ghost use Rattle.matcher.specs.Sizes.{Sized, SizedFrom, Paired, PairRoom};
@@ -27,8 +27,7 @@ fn size_at(rule: &Rule, sizes: &[u8], node: usize) -> u8
     ensures { (s : Tree) → Stands (rule_rows rule.now) node s → result ≡ size s }
 {
     match kind_at(rule, node) {
-        Kind::Empty => 1,
-        Kind::Leaf => 1,
+        Kind::Empty | Kind::Leaf => 1,
         Kind::Star => 1 + sizes[node + 1],
         Kind::Choice | Kind::Sequence => {
             let first = sizes[node + 1];

@@ -6,7 +6,7 @@ use super::Frame;
 use rules::Kind;
 use std::ops::Range;
 
-impl<'a> Frame<'a> {
+impl Frame<'_> {
     // The splits of a stretch that two nodes can have: the one that a symbol or nothing leaves, or each. A split is a number, so loops
     // over them count.
     pub(crate) fn splits(

@@ -10,7 +10,7 @@ use Rattle.matcher.proofs.Framed.{frame_single}
 use Rattle.matcher.proofs.Leaves.{part_seen}
 use Rattle.matcher.proofs.Marks.{room_kept}
 use Rattle.matcher.proofs.Words.{word_long}
-use Rattle.matcher.proofs.Answered.{told_lacks, told_has, told_marked, told_empty, told_leaf, both_not, both_so, either_first, either_second, pair_start, pair_end, pair_found, pair_more, pair_none, rounds_end, rounds_nothing, rounds_found, rounds_more, rounds_none}
+use Rattle.matcher.proofs.Answered.{not_lacking, told_lacks, told_has, told_marked, told_empty, told_leaf, both_not, both_so, either_first, either_second, pair_start, pair_end, pair_found, pair_more, pair_none, rounds_end, rounds_nothing, rounds_found, rounds_more, rounds_none}
 use Rattle.matcher.proofs.Turns.{left_all, turn_from, turn_below, turn_next, turn_left, turns_over}
 use Rattle.matcher.proofs.search.Search.+membership.Goals as goal
 
@@ -18,10 +18,9 @@ pub has-returns-in-Lacks : goal.has-returns-in-Lacks
 has-returns-in-Lacks g t c = told_lacks c.args.self.now.frame (word c.args.self.now) c.args.spot c.requires.on c.args.bench.now c.requires.sound c.in-Lacks.ensures
 
 pub has-returns-in-Has : goal.has-returns-in-Has
-has-returns-in-Has g t c = told_has c.args.self.now.frame (word c.args.self.now) c.args.spot c.requires.on c.args.bench.now c.requires.sound (λ e. absurd (omega (arith, c.in-Has.ensures, e))) (λ e. absurd (omega (arith, c.in-Has.ensures, e)))
-
-pub has-returns-in-Code : goal.has-returns-in-Code
-has-returns-in-Code g t c = told_has c.args.self.now.frame (word c.args.self.now) c.args.spot c.requires.on c.args.bench.now c.requires.sound (λ e. absurd (omega (arith, c.in-Code.ensures.2, e))) (λ e. absurd (omega (arith, c.in-Code.ensures.1, e)))
+has-returns-in-Has g t c =
+    let n = not_lacking c.look.result _ c.look.ensures c.in-Has.is in
+    told_has c.args.self.now.frame (word c.args.self.now) c.args.spot c.requires.on c.args.bench.now c.requires.sound n.0 n.1
 
 pub has-returns-in-Unknown : goal.has-returns-in-Unknown
 has-returns-in-Unknown g t c = told_marked c.args.self.now.frame (word c.args.self.now) c.args.spot c.requires.on c.args.bench.now c.has_anew-found.new.bench c.mark.new.bench c.has_anew-found.result

@@ -5,7 +5,7 @@ use Rattle.matcher.specs.Searches.{word, PresentAt, PreparedAt, GotAt}
 use Rattle.matcher.specs.Leaders.{leader_code}
 use Rattle.matcher.proofs.Marks.{room_kept}
 use Rattle.matcher.proofs.Firm.{right_told, right_both}
-use Rattle.matcher.proofs.KindNumbers.{no_choice, no_sequence}
+use Rattle.matcher.proofs.KindNumbers.{no_pair}
 use Rattle.matcher.proofs.Words.{word_long}
 use Rattle.matcher.proofs.Alone.{alone_got}
 use Rattle.matcher.proofs.Solutions.{present_second, got_second, got_first, got_better, prepared_none, prepared_all, prepared_skip, prepared_solved, ready_at, settled_put}
@@ -16,8 +16,10 @@ use Rattle.matcher.proofs.search.Search.+solving.Goals as goal
 pub best_code-best_split-requires-clause-ready : goal.best_code-best_split-requires-clause-ready
 best_code-best_split-requires-clause-ready g t c = ready_at (g.P.Policy.above c.args.self.now.policy.now) c.args.self.now.frame (word c.args.self.now) c.args.spot c.requires.sought.on (word_long c.args.self.now) (second_node c.args.self.now.frame c.args.spot.node) refl c.args.bench.now c.solve_splits.new.bench c.requires.present c.solve_splits.ensures
 
-pub best_code-returns-in_default : goal.best_code-returns-in_default
-best_code-returns-in_default g t c = alone_got (g.P.Policy.above c.args.self.now.policy.now) (frame_rows c.args.self.now.frame) (word c.args.self.now) c.args.self.now.frame.symbols c.args.bench.now c.args.spot.node c.args.spot.start c.args.spot.end c.requires.sought.on.start c.requires.sought.on.end (word_long c.args.self.now) (no_choice _ _ c.kind.ensures c.in_default.not-Choice) (no_sequence _ _ c.kind.ensures c.in_default.not-Sequence) c.requires.present c.requires.sought.right
+pub best_code-returns-in-Empty : goal.best_code-returns-in-Empty
+best_code-returns-in-Empty g t c =
+    let none = no_pair _ _ c.kind.ensures c.in-Empty.is in
+    alone_got (g.P.Policy.above c.args.self.now.policy.now) (frame_rows c.args.self.now.frame) (word c.args.self.now) c.args.self.now.frame.symbols c.args.bench.now c.args.spot.node c.args.spot.start c.args.spot.end c.requires.sought.on.start c.requires.sought.on.end (word_long c.args.self.now) none.0 none.1 c.requires.present c.requires.sought.right
 
 pub best_part-returns-then-not-has : goal.best_part-returns-then-not-has
 best_part-returns-then-not-has g t c = got_second (g.P.Policy.above c.args.self.now.policy.now) c.args.self.now.frame (word c.args.self.now) c.args.spot c.requires.sought.on (g.met.P.Policy.decided c.args.self.now.policy.now) (g.met.P.Policy.replaced c.args.self.now.policy.now) c.requires.kind (second_node c.args.self.now.frame c.args.spot.node) refl c.args.bench.now c.has.new.bench c.solve.new.bench c.has.result c.if-not-has.true (rw c.parts.ensures.first at c.has.ensures) (rw c.parts.ensures.second at c.solve.ensures)
