@@ -75,9 +75,7 @@ impl<A: Alphabet, P> Search<'_, A, P> {
         ensures { ToldAt self.now.frame (word self.now) bench.old bench.new spot result }
     {
         let (first, second) = self.frame.parts(spot);
-        let splits = self
-            .frame
-            .splits(first.node, second.node, spot.start, spot.end);
+        let splits = self.frame.splits(first, second.node);
         for k in splits {
             if self.has_both(bench, first.front(k), second.back(k)) {
                 return true;
@@ -100,9 +98,7 @@ impl<A: Alphabet, P> Search<'_, A, P> {
             node: spot.node + 1,
             ..spot
         };
-        let splits = self
-            .frame
-            .splits(round.node, spot.node, spot.start, spot.end);
+        let splits = self.frame.splits(round, spot.node);
         for k in spot.start + 1..splits.end {
             if self.has_both(bench, round.front(k), spot.back(k)) {
                 return true;

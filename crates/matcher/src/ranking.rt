@@ -88,9 +88,7 @@ impl<A: Alphabet, P: Policy> Search<'_, A, P> {
         ensures { CodedAt (P.Policy.above self.now.policy.now) self.now.frame (word self.now) bench.now spot result }
     {
         let (first, second) = self.frame.parts(spot);
-        let splits = self
-            .frame
-            .splits(first.node, second.node, spot.start, spot.end);
+        let splits = self.frame.splits(first, second.node);
         let mut best = None;
         for k in splits {
             if self.frame.both_coded(bench, first.front(k), second.back(k)) {

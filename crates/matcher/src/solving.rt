@@ -72,9 +72,7 @@ impl<A: Alphabet, P: Policy> Search<'_, A, P> {
         ensures { PreparedAt (P.Policy.above self.now.policy.now) self.now.frame (word self.now) bench.old bench.new spot (spot.end + 1) }
     {
         let (first, second) = self.frame.parts(spot);
-        let splits = self
-            .frame
-            .splits(first.node, second.node, spot.start, spot.end);
+        let splits = self.frame.splits(first, second.node);
         for k in splits {
             let (front, back) = (first.front(k), second.back(k));
             if self.has_both(bench, front, back) {

@@ -59,7 +59,7 @@ pub has_pair-returns-then-has_both : goal.has_pair-returns-then-has_both
 has_pair-returns-then-has_both g t c =
     let P : ℕ → Type 0 = λ k. NoSplit (frame_rows c.args.self.now.frame) (word c.args.self.now) c.args.self.now.frame.symbols c.args.bench.now c.loop-k.bench c.args.spot.node c.args.spot.start c.args.spot.end k in
     pair_found c.args.self.now.frame (word c.args.self.now) c.args.spot c.requires.asked.on (word_long c.args.self.now) (second_node c.args.self.now.frame c.args.spot.node) refl c.args.bench.now c.loop-k.bench c.has_both.new.bench c.in-Some.k c.has_both.result c.requires.kind
-    (omega (arith, turn_from c.into_iter-k-iterator.ensures.into_iter_gives c.loop-k.invariant.0 c.in-Some.ensures.steps, c.splits-splits.ensures.from)) (omega (arith, turn_below c.into_iter-k-iterator.ensures.into_iter_gives c.loop-k.invariant.0 c.in-Some.ensures.steps, c.splits-splits.ensures.to))
+    (omega (arith, turn_from c.into_iter-k-iterator.ensures.into_iter_gives c.loop-k.invariant.0 c.in-Some.ensures.steps, c.splits-splits.ensures.from, ap (λ (s : Spot). s.start) c.parts.ensures.first)) (omega (arith, turn_below c.into_iter-k-iterator.ensures.into_iter_gives c.loop-k.invariant.0 c.in-Some.ensures.steps, c.splits-splits.ensures.to, ap (λ (s : Spot). s.end) c.parts.ensures.first))
     c.if-has_both.true (subst P (sym c.in-Some.ensures.steps.1.1) c.loop-k.invariant.1) (rw (c.front.ensures, c.back.ensures, c.parts.ensures.first, c.parts.ensures.second) at c.has_both.ensures)
 
 pub has_pair-loop-k-preserved : goal.has_pair-loop-k-preserved
