@@ -15,7 +15,8 @@ pub(crate) struct Pad {
     pub(crate) next: [Option<(usize, usize)>; 64],
 }
 
-// The best code so far: alone, or compared already, so that the pad shows its reading.
+// The best code so far: alone, or compared already, so that the pad shows its reading. Here and in `better` and `best_split` a code
+// stays a byte, since a cell of the bench is one.
 #[derive(Clone, Copy)]
 pub(crate) enum Leader {
     Alone(u8),

@@ -9,7 +9,7 @@ use crate::search::Search;
 use policies::Policy;
 use rules::{Alphabet, Kind};
 
-// Bench and pad stay two parameters, since `has` takes the bench alone.
+// Bench and pad stay two parameters, since `has` takes the bench alone. Codes stay bytes, since the bench's cells are bytes.
 impl<A: Alphabet, P: Policy> Search<'_, A, P> {
     // Finds the code of the best reading of a stretch that the node has.
     #[cycle(solving)]

@@ -8,6 +8,9 @@ ghost use Rattle.matcher.specs.Unpacking.{Within, cut as Cut, first_share, secon
 use crate::frame::{Frame, Spot};
 use rules::Kind;
 
+// In this file a code stays a byte, since a cell of the bench is one, and a stretch an Option of a pair, since a report's entry is. The
+// code is 0 where there is no stretch: that nothing was taken is said by the stretch, and the code is not looked at.
+
 // Where a sequence's code cuts the stretch: 1 at its start, and each next code one symbol on.
 fn cut(start: usize, end: usize, code: u8) -> usize
     requires order { start ≤ end }
