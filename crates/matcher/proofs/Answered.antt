@@ -18,6 +18,7 @@ use Rattle.matcher.specs.Unpacking.{place, cell}
 use Rattle.matcher.specs.Benches.{Sound}
 use Rattle.matcher.specs.States.{Says, Reach, Told, BothTold, NoSplit, NoRound}
 use Rattle.rules.proofs.Nodes.{stands_head, choice_first, choice_second, sequence_first, sequence_second, star_part}
+use Rattle.matcher.proofs.AtSpot.{names}
 use Rattle.matcher.proofs.Halves.{front_moved, back_moved}
 use Rattle.matcher.proofs.Nodes.{kind_at}
 use Rattle.matcher.proofs.Framed.{framed}
@@ -53,26 +54,8 @@ module _ (f : Frame) (w : List Sight) (bs one : List ℕ) (s s' : Spot) (meet : 
       }
 
 module _ (f : Frame) (w : List Sight) (s : Spot) (on : On f s) where
-  abbrev rs : List Row
-  rs = frame_rows f
-
-  abbrev n : ℕ
-  n = f.symbols
-
-  abbrev m : ℕ
-  m = s.node
-
-  abbrev i : ℕ
-  i = s.start
-
-  abbrev j : ℕ
-  j = s.end
-
-  abbrev l : i ≤ j
-  l = on.start
-
-  abbrev u : j ≤ n
-  u = on.end
+  open (names f s) use {rs, n, m, i, j}
+  open on use {start as l, end as u}
 
   module _ (bs : List ℕ) (sound : Sound rs w n bs) where
     pub told_lacks : cell n bs m i j ≡ 255 → Told rs w n bs bs m i j false

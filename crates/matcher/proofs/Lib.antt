@@ -4,6 +4,7 @@ pub mod ByKind
 pub mod Framed
 pub mod Words
 pub mod Turns
+pub mod AtSpot
 pub mod SpotParts
 pub mod Halves
 pub mod Places

@@ -11,12 +11,12 @@ use Rattle.policies.specs.Orders.{Order, Decided, Replaced}
 use Rattle.matcher.specs.declared.frame.Frame.{Frame}
 use Rattle.matcher.specs.declared.frame.Spot.{Spot}
 use Rattle.rules.specs.Nodes.{Stands}
-use Rattle.matcher.specs.Sizes.{Sized}
-use Rattle.matcher.specs.Frames.{frame_rows, second_node, Laid, On}
+use Rattle.matcher.specs.Frames.{second_node, Laid, On}
 use Rattle.matcher.specs.Unpacking.{place, cell, unpacked}
 use Rattle.matcher.specs.Benches.{Grown, Held, Solved, Right}
 use Rattle.matcher.specs.States.{Reach, Told, BothTold, Present, Keeps, Settled, Got, BothCoded, Prepared, Ready}
 use Rattle.rules.proofs.Nodes.{choice_first, choice_second, sequence_first, sequence_second}
+use Rattle.matcher.proofs.AtSpot.{names}
 use Rattle.matcher.proofs.Halves.{front_moved, back_moved}
 use Rattle.matcher.proofs.Nodes.{kind_at, found}
 use Rattle.matcher.proofs.Framed.{framed}
@@ -41,32 +41,9 @@ coded_on n bs bs' p q i h j g c =
     record { first_some = omega (arith, x, c.first_some); first_small = omega (arith, x, c.first_small); second_some = omega (arith, y, c.second_some); second_small = omega (arith, y, c.second_small) }
 
 module _ (above : Order) (f : Frame) (w : List Sight) (s : Spot) (on : On f s) where
-  abbrev rs : List Row
-  rs = frame_rows f
-
-  abbrev n : ℕ
-  n = f.symbols
-
-  abbrev m : ℕ
-  m = s.node
-
-  abbrev i : ℕ
-  i = s.start
-
-  abbrev j : ℕ
-  j = s.end
-
-  abbrev sized : Sized rs f.sizes
-  sized = (framed f).sizes
-
-  abbrev few : length rs ≤ 64
-  few = (framed f).few
-
-  abbrev l : i ≤ j
-  l = on.start
-
-  abbrev u : j ≤ n
-  u = on.end
+  open (names f s) use {rs, n, m, i, j}
+  open on use {start as l, end as u}
+  open (framed f) use {sizes as sized, few}
 
   module _ (decided : Decided above) (replaced : Replaced above) (kind : kind_at rs m ≡ 2) (second : ℕ) (is : second ≡ second_node f m) where
     second_is : (p q : Tree) → Stands rs m (choice p q) → second ≡ m + 1 + size p

@@ -1,7 +1,6 @@
 -- The best split of a sequence, split by split.
-use Rattle.std.proofs.Common.{◌≡◌, ℕ, ◌+◌, ◌-◌, ◌<◌, ◌≤◌, ◌⊎◌, List, ◌∷◌, ◌++◌, length, get_or, sym, refl, ap, ◌∙◌, subst, inl, inr, arith}
+use Rattle.std.proofs.Common.{◌≡◌, ℕ, ◌+◌, ◌-◌, ◌<◌, ◌≤◌, ◌⊎◌, List, ◌∷◌, ◌++◌, get_or, sym, refl, ap, ◌∙◌, subst, inl, inr, arith}
 use native.Mathlib.Decide.{ℕ_discrete}
-use Rattle.rules.specs.declared.row.Row.{Row}
 use Rattle.rules.specs.Trees.{Tree, sequence, size, rows, Of, Bound}
 use Rattle.rules.specs.Languages.{Sight, In, part}
 use Rattle.rules.specs.Readings.{Reading, Reads, reads_sequence, stretch}
@@ -11,11 +10,11 @@ use Rattle.policies.specs.Orders.{Order, Decided, Replaced}
 use Rattle.matcher.specs.declared.frame.Frame.{Frame}
 use Rattle.matcher.specs.declared.frame.Spot.{Spot}
 use Rattle.rules.specs.Nodes.{Stands}
-use Rattle.matcher.specs.Sizes.{Sized}
-use Rattle.matcher.specs.Frames.{frame_rows, second_node, On}
+use Rattle.matcher.specs.Frames.{second_node, On}
 use Rattle.matcher.specs.Unpacking.{cell, unpacked}
 use Rattle.matcher.specs.Benches.{Grown, AtLeast, Held}
 use Rattle.matcher.specs.States.{Reach, Keeps, Coded, BothCoded, Ready, BestBelow}
+use Rattle.matcher.proofs.AtSpot.{names}
 use Rattle.matcher.proofs.Halves.{front_moved, back_moved}
 use Rattle.matcher.proofs.Framed.{framed}
 use Rattle.rules.proofs.Nodes.{sequence_first, sequence_second}
@@ -67,38 +66,9 @@ module _ (above : Order) (decided : Decided above) (replaced : Replaced above) (
 
 -- the splits of a sequence whose codes are all in the bench
 module _ (above : Order) (decided : Decided above) (replaced : Replaced above) (f : Frame) (w : List Sight) (s : Spot) (on : On f s) where
-  abbrev rs : List Row
-  rs = frame_rows f
-
-  abbrev table : List ℕ
-  table = f.sizes
-
-  abbrev n : ℕ
-  n = f.symbols
-
-  abbrev m : ℕ
-  m = s.node
-
-  abbrev i : ℕ
-  i = s.start
-
-  abbrev j : ℕ
-  j = s.end
-
-  abbrev sized : Sized rs table
-  sized = (framed f).sizes
-
-  abbrev few : length rs ≤ 64
-  few = (framed f).few
-
-  abbrev short : n ≤ 120
-  short = f.short
-
-  abbrev l : i ≤ j
-  l = on.start
-
-  abbrev u : j ≤ n
-  u = on.end
+  open (names f s) use {rs, n, m, i, j}
+  open on use {start as l, end as u}
+  open (framed f) use {sizes as sized, few}
 
   abbrev second : ℕ
   second = second_node f m
@@ -118,7 +88,7 @@ module _ (above : Order) (decided : Decided above) (replaced : Replaced above) (
 
     -- the reading of a split
     module _ (t : Tree) (e : Of rs t) (p q : Tree) (bound : Bound t m (sequence p q)) where
-      size_is : get_or table (m + 1) 0 ≡ size p
+      size_is : get_or f.sizes (m + 1) 0 ≡ size p
       size_is = sized.sizes (m + 1) p (omega arith) (sequence_first rs m p q (bound_stands rs t (sequence p q) m e bound))
 
       module _ (k : ℕ) (x : i ≤ k) (y : k ≤ j) (c : BothCoded n bs (m + 1) second i k j) where
