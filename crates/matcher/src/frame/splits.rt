@@ -21,11 +21,11 @@ impl Frame<'_> {
             Kind::Empty => start..start + 1,
             Kind::Leaf if start == end => end + 1..end + 1,
             Kind::Leaf => start + 1..start + 2,
-            _ => match self.kind(second) {
+            Kind::Choice | Kind::Sequence | Kind::Star => match self.kind(second) {
                 Kind::Empty => end..end + 1,
                 Kind::Leaf if start == end => end + 1..end + 1,
                 Kind::Leaf => end - 1..end,
-                _ => start..end + 1,
+                Kind::Choice | Kind::Sequence | Kind::Star => start..end + 1,
             },
         }
     }
