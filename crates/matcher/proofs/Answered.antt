@@ -101,9 +101,12 @@ module _ (f : Frame) (w : List Sight) (s : Spot) (on : On f s) where
     told_marked = elim (ℕ_discrete (cell n one m i j) 0) [ yes z ↦ by_found r refl z | no z ↦ subst Goal (sym (known z)) told ]
 
   -- a choice, a sequence and a repetition
-  module _ (long : length w ≡ n) (second : ℕ) (is : second ≡ second_node f m) where
+  module _ (long : length w ≡ n) where
+    abbrev second : ℕ
+    second = second_node f m
+
     second_at : (p q : Tree) → Stands rs (m + 1) p → Stands rs (m + 1 + size p) q → Stands rs second q
-    second_at p q a b = let P : ℕ → Type 0 = λ k. Stands rs k q in subst P (sym (is ∙ ap (λ k. m + 1 + k) ((framed f).sizes.sizes (m + 1) p (omega arith) a))) b
+    second_at p q a b = let P : ℕ → Type 0 = λ k. Stands rs k q in subst P (sym (ap (λ k. m + 1 + k) ((framed f).sizes.sizes (m + 1) p (omega arith) a))) b
 
     pub either_first : (bs one : List ℕ) (r : Bool) → kind_at rs m ≡ 2 → r ≡ true → Told rs w n bs one (m + 1) i j r → Told rs w n bs one m i j r
     either_first bs one r k e t = record {

@@ -45,9 +45,12 @@ module _ (above : Order) (f : Frame) (w : List Sight) (s : Spot) (on : On f s) w
   open on use {start as l, end as u}
   open (framed f) use {sizes as sized, few}
 
-  module _ (decided : Decided above) (replaced : Replaced above) (kind : kind_at rs m ≡ 2) (second : ℕ) (is : second ≡ second_node f m) where
+  module _ (decided : Decided above) (replaced : Replaced above) (kind : kind_at rs m ≡ 2) where
+    abbrev second : ℕ
+    second = second_node f m
+
     second_is : (p q : Tree) → Stands rs m (choice p q) → second ≡ m + 1 + size p
-    second_is p q h = is ∙ ap (λ k. m + 1 + k) (sized.sizes (m + 1) p (omega arith) (choice_first rs m p q h))
+    second_is p q h = ap (λ k. m + 1 + k) (sized.sizes (m + 1) p (omega arith) (choice_first rs m p q h))
 
     second_at : (p q : Tree) → Stands rs m (choice p q) → Stands rs second q
     second_at p q h = let P : ℕ → Type 0 = λ k. Stands rs k q in subst P (sym (second_is p q h)) (choice_second rs m p q h)
@@ -126,12 +129,15 @@ module _ (above : Order) (f : Frame) (w : List Sight) (s : Spot) (on : On f s) w
         only_reads_two : (t₀ : Tree) → Of rs t₀ → (p q : Tree) → (b : Bound t₀ m (choice p q)) → (0 < cell n four (m + 1 + size p) i j) × (cell n four (m + 1 + size p) i j < 254) × Held above t₀ w n four q (m + 1 + size p) i j (cell n four (m + 1 + size p) i j) → Reads w (choice p q) i j (unpacked n four (choice p q) m (stretch i j) 2)
         only_reads_two t₀ e p q b g = reads_two above decided replaced t₀ (few_nodes rs t₀ e few) w m i j p q b n four g
 
-  module _ (long : length w ≡ n) (after : ℕ) (is : after ≡ second_node f m) where
+  module _ (long : length w ≡ n) where
+    abbrev after : ℕ
+    after = second_node f m
+
     abbrev Below : List ℕ → List ℕ → ℕ → Type 0
     Below bs one k = Prepared above rs w n bs one m (second_node f m) i j k
 
     after_at : (p q : Tree) → Stands rs m (sequence p q) → Stands rs after q
-    after_at p q h = let P : ℕ → Type 0 = λ k. Stands rs k q in subst P (sym (is ∙ ap (λ k. m + 1 + k) (sized.sizes (m + 1) p (omega arith) (sequence_first rs m p q h)))) (sequence_second rs m p q h)
+    after_at p q h = let P : ℕ → Type 0 = λ k. Stands rs k q in subst P (sym (ap (λ k. m + 1 + k) (sized.sizes (m + 1) p (omega arith) (sequence_first rs m p q h)))) (sequence_second rs m p q h)
 
     pub prepared_none : (bs : List ℕ) (a b : ℕ) → Reach rs (m + 1) after i j a b → Right above rs w n bs → Below bs bs a
     prepared_none bs a b f r = record {
@@ -171,7 +177,7 @@ module _ (above : Order) (f : Frame) (w : List Sight) (s : Spot) (on : On f s) w
     prepared_solved bs one two three four k r f t p q =
         let c = q.grown.at (place n (m + 1) i k) p.some p.small in
         more bs one four k (grown_on one three four (grown_on one two three (marked_grown one two t.marked) p.grown) q.grown) q.right f
-        (λ _ _ _ _ _. let Q : ℕ → Type 0 = λ v. BothCoded n four (m + 1) v i k j in subst Q is (record { first_some = omega (arith, c, p.some); first_small = omega (arith, c, p.small); second_some = q.some; second_small = q.small }))
+        (λ _ _ _ _ _. record { first_some = omega (arith, c, p.some); first_small = omega (arith, c, p.small); second_some = q.some; second_small = q.small })
 
     pub ready_at : (bs one : List ℕ) → Present rs w m i j → Below bs one (j + 1) → Ready above rs w n one m (second_node f m) i j
     ready_at bs one present f = record { long = long; right = f.right; present = present; coded = λ p q h d x y c z. f.coded p q h d x (omega arith) c z }

@@ -1,9 +1,9 @@
-use Rattle.std.proofs.Common.{ℕ, ◌+◌, ◌-◌, List, get_or, take, drop, sym, refl, ap, ◌∙◌, subst, arith}
+use Rattle.std.proofs.Common.{ℕ, ◌+◌, ◌-◌, List, get_or, take, drop, sym, ap, ◌∙◌, subst, arith}
 use Rattle.rules.specs.declared.row.Row.{Row}
 use Rattle.rules.specs.Trees.{leaf, row}
 use Rattle.rules.specs.Languages.{Sight, seen}
 use Rattle.matcher.specs.States.{Says, NoSplit}
-use Rattle.matcher.specs.Frames.{frame_rows, second_node}
+use Rattle.matcher.specs.Frames.{frame_rows}
 use Rattle.matcher.specs.declared.frame.Spot.{Spot}
 use Rattle.matcher.specs.Searches.{word, Asked}
 use Rattle.matcher.proofs.Framed.{frame_single}
@@ -47,18 +47,18 @@ pub has_rounds-returns-then-spot : goal.has_rounds-returns-then-spot
 has_rounds-returns-then-spot g t c = rounds_nothing c.args.self.now.frame (word c.args.self.now) c.args.spot c.requires.asked.on (word_long c.args.self.now) c.args.bench.now (omega (arith, c.requires.kind)) c.if-spot.true c.requires.asked.sound
 
 pub has_either-returns-then-has : goal.has_either-returns-then-has
-has_either-returns-then-has g t c = either_first c.args.self.now.frame (word c.args.self.now) c.args.spot c.requires.asked.on (word_long c.args.self.now) (second_node c.args.self.now.frame c.args.spot.node) refl c.args.bench.now c.has.new.bench c.has.result c.requires.kind c.if-has.true (rw c.parts.ensures.first at c.has.ensures)
+has_either-returns-then-has g t c = either_first c.args.self.now.frame (word c.args.self.now) c.args.spot c.requires.asked.on (word_long c.args.self.now) c.args.bench.now c.has.new.bench c.has.result c.requires.kind c.if-has.true (rw c.parts.ensures.first at c.has.ensures)
 
 pub has_either-returns-else-has : goal.has_either-returns-else-has
-has_either-returns-else-has g t c = either_second c.args.self.now.frame (word c.args.self.now) c.args.spot c.requires.asked.on (word_long c.args.self.now) (second_node c.args.self.now.frame c.args.spot.node) refl c.args.bench.now c.has.new.bench c.has-else-has.new.bench c.has.result c.has-else-has.result c.requires.kind c.if-has.false (rw c.parts.ensures.first at c.has.ensures) (rw c.parts.ensures.second at c.has-else-has.ensures)
+has_either-returns-else-has g t c = either_second c.args.self.now.frame (word c.args.self.now) c.args.spot c.requires.asked.on (word_long c.args.self.now) c.args.bench.now c.has.new.bench c.has-else-has.new.bench c.has.result c.has-else-has.result c.requires.kind c.if-has.false (rw c.parts.ensures.first at c.has.ensures) (rw c.parts.ensures.second at c.has-else-has.ensures)
 
 pub has_pair-loop-k-init : goal.has_pair-loop-k-init
-has_pair-loop-k-init g t c = (left_all c.into_iter-k-iterator.result, pair_start c.args.self.now.frame (word c.args.self.now) c.args.spot c.requires.asked.on (word_long c.args.self.now) (second_node c.args.self.now.frame c.args.spot.node) refl c.args.bench.now c.into_iter-k-iterator.result.start c.into_iter-k-iterator.result.end (rw c.into_iter-k-iterator.ensures.into_iter_gives (rw (c.parts.ensures.first, c.parts.ensures.second) at c.splits-splits.ensures)) c.requires.asked.sound)
+has_pair-loop-k-init g t c = (left_all c.into_iter-k-iterator.result, pair_start c.args.self.now.frame (word c.args.self.now) c.args.spot c.requires.asked.on (word_long c.args.self.now) c.args.bench.now c.into_iter-k-iterator.result.start c.into_iter-k-iterator.result.end (rw c.into_iter-k-iterator.ensures.into_iter_gives (rw (c.parts.ensures.first, c.parts.ensures.second) at c.splits-splits.ensures)) c.requires.asked.sound)
 
 pub has_pair-returns-then-has_both : goal.has_pair-returns-then-has_both
 has_pair-returns-then-has_both g t c =
     let P : ℕ → Type 0 = λ k. NoSplit (frame_rows c.args.self.now.frame) (word c.args.self.now) c.args.self.now.frame.symbols c.args.bench.now c.loop-k.bench c.args.spot.node c.args.spot.start c.args.spot.end k in
-    pair_found c.args.self.now.frame (word c.args.self.now) c.args.spot c.requires.asked.on (word_long c.args.self.now) (second_node c.args.self.now.frame c.args.spot.node) refl c.args.bench.now c.loop-k.bench c.has_both.new.bench c.in-Some.k c.has_both.result c.requires.kind
+    pair_found c.args.self.now.frame (word c.args.self.now) c.args.spot c.requires.asked.on (word_long c.args.self.now) c.args.bench.now c.loop-k.bench c.has_both.new.bench c.in-Some.k c.has_both.result c.requires.kind
     (omega (arith, turn_from c.into_iter-k-iterator.ensures.into_iter_gives c.loop-k.invariant.0 c.in-Some.ensures.steps, c.splits-splits.ensures.from, ap (λ (s : Spot). s.start) c.parts.ensures.first)) (omega (arith, turn_below c.into_iter-k-iterator.ensures.into_iter_gives c.loop-k.invariant.0 c.in-Some.ensures.steps, c.splits-splits.ensures.to, ap (λ (s : Spot). s.end) c.parts.ensures.first))
     c.if-has_both.true (subst P (sym c.in-Some.ensures.steps.1.1) c.loop-k.invariant.1) (rw (c.front.ensures, c.back.ensures, c.parts.ensures.first, c.parts.ensures.second) at c.has_both.ensures)
 
@@ -67,12 +67,12 @@ has_pair-loop-k-preserved g t c =
     let P : ℕ → Type 0 = λ k. NoSplit (frame_rows c.args.self.now.frame) (word c.args.self.now) c.args.self.now.frame.symbols c.args.bench.now c.loop-k.bench c.args.spot.node c.args.spot.start c.args.spot.end k in
     let Q : ℕ → Type 0 = λ k. NoSplit (frame_rows c.args.self.now.frame) (word c.args.self.now) c.args.self.now.frame.symbols c.args.bench.now c.has_both.new.bench c.args.spot.node c.args.spot.start c.args.spot.end k in (
       turn_left c.into_iter-k-iterator.ensures.into_iter_gives c.loop-k.invariant.0 c.in-Some.ensures.steps,
-      subst Q (turn_next c.into_iter-k-iterator.ensures.into_iter_gives c.loop-k.invariant.0 c.in-Some.ensures.steps) (pair_more c.args.self.now.frame (word c.args.self.now) c.args.spot c.requires.asked.on (word_long c.args.self.now) (second_node c.args.self.now.frame c.args.spot.node) refl c.args.bench.now c.loop-k.bench c.has_both.new.bench c.in-Some.k c.has_both.result c.if-has_both.false (subst P (sym c.in-Some.ensures.steps.1.1) c.loop-k.invariant.1) (rw (c.front.ensures, c.back.ensures, c.parts.ensures.first, c.parts.ensures.second) at c.has_both.ensures)),
+      subst Q (turn_next c.into_iter-k-iterator.ensures.into_iter_gives c.loop-k.invariant.0 c.in-Some.ensures.steps) (pair_more c.args.self.now.frame (word c.args.self.now) c.args.spot c.requires.asked.on (word_long c.args.self.now) c.args.bench.now c.loop-k.bench c.has_both.new.bench c.in-Some.k c.has_both.result c.if-has_both.false (subst P (sym c.in-Some.ensures.steps.1.1) c.loop-k.invariant.1) (rw (c.front.ensures, c.back.ensures, c.parts.ensures.first, c.parts.ensures.second) at c.has_both.ensures)),
     )
 
 pub has_pair-returns : goal.has_pair-returns
-has_pair-returns g t c = pair_none c.args.self.now.frame (word c.args.self.now) c.args.spot c.requires.asked.on (word_long c.args.self.now) (second_node c.args.self.now.frame c.args.spot.node) refl c.args.bench.now c.loop-k.bench (c.args.spot.end + 1) c.requires.kind (omega arith)
-    (pair_end c.args.self.now.frame (word c.args.self.now) c.args.spot c.requires.asked.on (word_long c.args.self.now) (second_node c.args.self.now.frame c.args.spot.node) refl c.args.bench.now c.loop-k.bench c.splits-splits.result.start c.splits-splits.result.end c.loop-k.k-iterator.start (rw (c.parts.ensures.first, c.parts.ensures.second) at c.splits-splits.ensures) (turns_over c.into_iter-k-iterator.ensures.into_iter_gives c.loop-k.invariant.0 c.in-None.ensures.steps) c.loop-k.invariant.1)
+has_pair-returns g t c = pair_none c.args.self.now.frame (word c.args.self.now) c.args.spot c.requires.asked.on (word_long c.args.self.now) c.args.bench.now c.loop-k.bench (c.args.spot.end + 1) c.requires.kind (omega arith)
+    (pair_end c.args.self.now.frame (word c.args.self.now) c.args.spot c.requires.asked.on (word_long c.args.self.now) c.args.bench.now c.loop-k.bench c.splits-splits.result.start c.splits-splits.result.end c.loop-k.k-iterator.start (rw (c.parts.ensures.first, c.parts.ensures.second) at c.splits-splits.ensures) (turns_over c.into_iter-k-iterator.ensures.into_iter_gives c.loop-k.invariant.0 c.in-None.ensures.steps) c.loop-k.invariant.1)
 
 pub has_rounds-splits-splits-requires-clause-first : goal.has_rounds-splits-splits-requires-clause-first
 has_rounds-splits-splits-requires-clause-first g t c = let p = frame_single c.args.self.now.frame c.args.spot.node c.requires.asked.on.node (omega (arith, c.requires.kind)) in omega (arith, p.within, p.some)
