@@ -9,7 +9,7 @@ use Rattle.matcher.proofs.KindNumbers.{no_pair}
 use Rattle.matcher.proofs.Words.{word_long}
 use Rattle.matcher.proofs.Alone.{alone_got}
 use Rattle.matcher.proofs.Solutions.{present_second, got_second, got_first, got_better, prepared_none, prepared_all, prepared_skip, prepared_solved, ready_at, settled_put}
-use Rattle.matcher.proofs.SpotParts.{first_part, second_part, part_sought}
+use Rattle.matcher.proofs.SpotParts.{first_part, second_part, part_sought, told_sought}
 use Rattle.matcher.proofs.Turns.{left_all, turn_from, turn_below, turn_next, turn_left, turns_over}
 use Rattle.matcher.proofs.search.Search.+solving.Goals as goal
 
@@ -43,14 +43,14 @@ pub best_part-solve-requires-then-not-has-2 : goal.best_part-solve-requires-then
 best_part-solve-requires-then-not-has-2 g t c κs within =
     let part = first_part c.args.self.now.frame c.args.spot c.parts.result.0 c.parts.ensures.first c.parts.ensures.within in (
       omega (arith, c.decreases, c.requires.sought.on.node, part.above, part.inside, part.start, part.end),
-      (within.0, (within.1.0, (within.1.1, (part_sought (g.P.Policy.above c.args.self.now.policy.now) c.args.self.now.frame (word c.args.self.now) c.has-2.new.bench c.args.spot c.parts.result.0 part c.requires.sought.on (room_kept _ _ c.args.bench.now c.has-2.new.bench (c.has-2.auto.bench ∙ c.has.auto.bench) c.requires.sought.laid) (right_told (g.P.Policy.above c.args.self.now.policy.now) (frame_rows c.args.self.now.frame) (word c.args.self.now) c.args.self.now.frame.symbols c.has.new.bench c.has-2.new.bench c.parts.result.1.node c.parts.result.1.start c.parts.result.1.end c.has-2.result (right_told (g.P.Policy.above c.args.self.now.policy.now) (frame_rows c.args.self.now.frame) (word c.args.self.now) c.args.self.now.frame.symbols c.args.bench.now c.has.new.bench c.parts.result.0.node c.parts.result.0.start c.parts.result.0.end c.has.result c.requires.sought.right c.has.ensures) c.has-2.ensures), λ s h. (c.has.ensures.says s h).has c.if-not-has.false)))),
+      (within.0, (within.1.0, (within.1.1, (told_sought (g.P.Policy.above c.args.self.now.policy.now) c.args.self.now.frame (word c.args.self.now) c.args.bench.now c.has.new.bench c.has-2.new.bench c.args.spot c.parts.result.0 c.parts.result.1 c.has.result c.has-2.result part c.requires.sought.on (room_kept _ _ c.args.bench.now c.has-2.new.bench (c.has-2.auto.bench ∙ c.has.auto.bench) c.requires.sought.laid) c.requires.sought.right c.has.ensures c.has-2.ensures, λ s h. (c.has.ensures.says s h).has c.if-not-has.false)))),
     )
 
 pub best_part-solve-requires-2 : goal.best_part-solve-requires-2
 best_part-solve-requires-2 g t c κs within =
     let part = first_part c.args.self.now.frame c.args.spot c.parts.result.0 c.parts.ensures.first c.parts.ensures.within in (
       omega (arith, c.decreases, c.requires.sought.on.node, part.above, part.inside, part.start, part.end),
-      (within.0, (within.1.0, (within.1.1, (part_sought (g.P.Policy.above c.args.self.now.policy.now) c.args.self.now.frame (word c.args.self.now) c.has-2.new.bench c.args.spot c.parts.result.0 part c.requires.sought.on (room_kept _ _ c.args.bench.now c.has-2.new.bench (c.has-2.auto.bench ∙ c.has.auto.bench) c.requires.sought.laid) (right_told (g.P.Policy.above c.args.self.now.policy.now) (frame_rows c.args.self.now.frame) (word c.args.self.now) c.args.self.now.frame.symbols c.has.new.bench c.has-2.new.bench c.parts.result.1.node c.parts.result.1.start c.parts.result.1.end c.has-2.result (right_told (g.P.Policy.above c.args.self.now.policy.now) (frame_rows c.args.self.now.frame) (word c.args.self.now) c.args.self.now.frame.symbols c.args.bench.now c.has.new.bench c.parts.result.0.node c.parts.result.0.start c.parts.result.0.end c.has.result c.requires.sought.right c.has.ensures) c.has-2.ensures), λ s h. (c.has.ensures.says s h).has c.if-not-has.false)))),
+      (within.0, (within.1.0, (within.1.1, (told_sought (g.P.Policy.above c.args.self.now.policy.now) c.args.self.now.frame (word c.args.self.now) c.args.bench.now c.has.new.bench c.has-2.new.bench c.args.spot c.parts.result.0 c.parts.result.1 c.has.result c.has-2.result part c.requires.sought.on (room_kept _ _ c.args.bench.now c.has-2.new.bench (c.has-2.auto.bench ∙ c.has.auto.bench) c.requires.sought.laid) c.requires.sought.right c.has.ensures c.has-2.ensures, λ s h. (c.has.ensures.says s h).has c.if-not-has.false)))),
     )
 
 pub best_part-solve-requires-3 : goal.best_part-solve-requires-3
