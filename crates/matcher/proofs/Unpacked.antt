@@ -12,9 +12,6 @@ use Rattle.matcher.proofs.Nodes.{kind_at, kind_is}
 use borrow.Rule.Slice.PartMut.{put_mid}
 
 module _ {X : Type 0} (xs : List X) (x : X) (ys zs : List X) (a b : ℕ) (long : length xs ≡ 1 + a + b) where
-  pub first_fits : 1 + a ≤ length (set xs 0 x)
-  first_fits = omega (arith, length-set xs 0 x)
-
   pub first_long : length (take (1 + a - 1) (drop 1 (set xs 0 x))) ≡ a
   first_long = omega (arith, length-take (1 + a - 1) (drop 1 (set xs 0 x)), length-drop 1 (set xs 0 x), length-set xs 0 x)
 
