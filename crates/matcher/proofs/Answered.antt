@@ -1,11 +1,14 @@
 -- Whether a node has a stretch, from what its parts have.
-use Rattle.std.proofs.Common.{◌≡◌, ℕ, ◌+◌, ◌<◌, ◌≤◌, Bool, true, false, eqb, List, length, get_or, set, sym, refl, ap, ◌∙◌, subst, inl, inr, arith, eqb-true}
+use Rattle.std.proofs.Common.{◌≡◌, ℕ, ◌+◌, ◌<◌, ◌≤◌, Bool, true, false, eqb, ◌⊎◌, List, length, get_or, set, sym, ◌≢◌, refl, ap, ◌∙◌, subst, inl, inr, arith, eqb-true}
 use native.Mathlib.Decide.{ℕ_discrete}
 use borrow.Author.Tests.{eqb-false}
 use Rattle.rules.specs.declared.row.Row.{Row}
 use Rattle.rules.specs.Trees.{Tree, leaf, sequence, star, size, row}
-use Rattle.rules.specs.Languages.{Sight, In, in_first, in_second, part}
+use Rattle.rules.specs.Languages.{Sight, in_first, in_second, part}
 use Rattle.rules.proofs.Parts.{empty_parts, choice_parts, sequence_split, sequence_join, star_split, star_join, star_parts}
+use Rattle.matcher.specs.declared.bench.Cell.{Cell}
+use Rattle.matcher.specs.declared.bench.Cell.TheVariants.{Has, Code}
+use Rattle.matcher.specs.Cells.{CellOf}
 use Rattle.matcher.specs.declared.frame.Frame.{Frame}
 use Rattle.matcher.specs.declared.frame.Spot.{Spot}
 use Rattle.rules.specs.Nodes.{Stands}
@@ -15,6 +18,8 @@ use Rattle.matcher.specs.Unpacking.{place, cell}
 use Rattle.matcher.specs.Benches.{Sound}
 use Rattle.matcher.specs.States.{Says, Reach, Told, BothTold, NoSplit, NoRound}
 use Rattle.rules.proofs.Nodes.{stands_head, choice_first, choice_second, sequence_first, sequence_second, star_part}
+use Rattle.matcher.proofs.AtSpot.{names}
+use Rattle.matcher.proofs.Halves.{front_moved, back_moved}
 use Rattle.matcher.proofs.Nodes.{kind_at}
 use Rattle.matcher.proofs.Framed.{framed}
 use Rattle.matcher.proofs.Places.{place_in}
@@ -26,6 +31,10 @@ pub leaf_value : (rs : List Row) (m : ℕ) (x : List Sight) → kind_at rs m ≡
 leaf_value rs m x k r t = by_leaf rs m (λ s. Says s x r) k (λ lo hi h.
     let P : Row → Type 0 = λ y. Says (leaf y.lo y.hi) x r in
     subst P (stands_head rs m (leaf lo hi) h (row 0 0 0)) t)
+
+pub not_lacking : (x : Cell) (n : ℕ) → CellOf n x → (x ≡ Has) ⊎ ((c : ℕ) × (x ≡ Code c)) → (n ≢ 255) × (n ≢ 0)
+not_lacking x n h (inl e) = let k = subst (CellOf n) e h in (λ y. absurd (omega (arith, k, y)), λ y. absurd (omega (arith, k, y)))
+not_lacking x n h (inr e) = let k = subst (CellOf n) e.1 h in (λ y. absurd (omega (arith, k.2, y)), λ y. absurd (omega (arith, k.1, y)))
 
 -- both halves
 module _ (f : Frame) (w : List Sight) (bs one : List ℕ) (s s' : Spot) (meet : s.end ≡ s'.start) where
@@ -44,30 +53,9 @@ module _ (f : Frame) (w : List Sight) (bs one : List ℕ) (s s' : Spot) (meet : 
         neither = λ x p q h h' a b. (u.says q h').lacks x b;
       }
 
-moved_in : (s : Tree) (x y : List Sight) → x ≡ y → In s x → In s y
-moved_in s x y e h = let P : List Sight → Type 0 = λ z. In s z in subst P e h
-
 module _ (f : Frame) (w : List Sight) (s : Spot) (on : On f s) where
-  abbrev rs : List Row
-  rs = frame_rows f
-
-  abbrev n : ℕ
-  n = f.symbols
-
-  abbrev m : ℕ
-  m = s.node
-
-  abbrev i : ℕ
-  i = s.start
-
-  abbrev j : ℕ
-  j = s.end
-
-  abbrev l : i ≤ j
-  l = on.start
-
-  abbrev u : j ≤ n
-  u = on.end
+  open (names f s) use {rs, n, m, i, j}
+  open on use {start as l, end as u}
 
   module _ (bs : List ℕ) (sound : Sound rs w n bs) where
     pub told_lacks : cell n bs m i j ≡ 255 → Told rs w n bs bs m i j false
@@ -113,9 +101,12 @@ module _ (f : Frame) (w : List Sight) (s : Spot) (on : On f s) where
     told_marked = elim (ℕ_discrete (cell n one m i j) 0) [ yes z ↦ by_found r refl z | no z ↦ subst Goal (sym (known z)) told ]
 
   -- a choice, a sequence and a repetition
-  module _ (long : length w ≡ n) (second : ℕ) (is : second ≡ second_node f m) where
+  module _ (long : length w ≡ n) where
+    abbrev second : ℕ
+    second = second_node f m
+
     second_at : (p q : Tree) → Stands rs (m + 1) p → Stands rs (m + 1 + size p) q → Stands rs second q
-    second_at p q a b = let P : ℕ → Type 0 = λ k. Stands rs k q in subst P (sym (is ∙ ap (λ k. m + 1 + k) ((framed f).sizes.sizes (m + 1) p (omega arith) a))) b
+    second_at p q a b = let P : ℕ → Type 0 = λ k. Stands rs k q in subst P (sym (ap (λ k. m + 1 + k) ((framed f).sizes.sizes (m + 1) p (omega arith) a))) b
 
     pub either_first : (bs one : List ℕ) (r : Bool) → kind_at rs m ≡ 2 → r ≡ true → Told rs w n bs one (m + 1) i j r → Told rs w n bs one m i j r
     either_first bs one r k e t = record {
@@ -153,7 +144,7 @@ module _ (f : Frame) (w : List Sight) (s : Spot) (on : On f s) where
       marked = marked_on bs one two f.marked t.marked;
       none = λ p q h d a b x y. elim (ℕ_discrete d k) [
         | yes z ↦ (let c = sequence_first rs m p q h in
-            t.neither e p q c (second_at p q c (sequence_second rs m p q h)) (moved_in p (part w i d) (part w i k) (ap (λ v. part w i v) z) x) (moved_in q (part w d j) (part w k j) (ap (λ v. part w v j) z) y))
+            t.neither e p q c (second_at p q c (sequence_second rs m p q h)) (front_moved w z p i x) (back_moved w z q j y))
         | no z ↦ f.none p q h d a (omega arith) x y
       ];
     }
@@ -204,7 +195,7 @@ module _ (f : Frame) (w : List Sight) (s : Spot) (on : On f s) where
       sound = t.sound;
       marked = marked_on bs one two f.marked t.marked;
       none = λ p h d a b x y. elim (ℕ_discrete d k) [
-        | yes z ↦ t.neither e p (star p) (star_part rs m p h) h (moved_in p (part w i d) (part w i k) (ap (λ v. part w i v) z) x) (moved_in (star p) (part w d j) (part w k j) (ap (λ v. part w v j) z) y)
+        | yes z ↦ t.neither e p (star p) (star_part rs m p h) h (front_moved w z p i x) (back_moved w z (star p) j y)
         | no z ↦ f.none p h d a (omega arith) x y
       ];
     }

@@ -3,6 +3,10 @@ pub mod KindNumbers
 pub mod ByKind
 pub mod Framed
 pub mod Words
+pub mod Turns
+pub mod AtSpot
+pub mod SpotParts
+pub mod Halves
 pub mod Places
 pub mod Unpacked
 pub mod Marks

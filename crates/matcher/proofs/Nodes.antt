@@ -62,8 +62,6 @@ kind_small rs r m l =
 pub record Pair (rs : List Row) (table : List ℕ) (m : ℕ) (s : Tree) : Type 0 where
   pub first : Tree
   pub second : Tree
-  pub first_stands : Stands rs (m + 1) first
-  pub second_stands : Stands rs (m + 1 + size first) second
   pub first_size : get_or table (m + 1) 0 ≡ size first
   pub second_size : get_or table (m + 1 + size first) 0 ≡ size second
   pub whole : size s ≡ 1 + size first + size second
@@ -75,8 +73,6 @@ pair : (rs : List Row) (table : List ℕ) (m : ℕ) (s p q : Tree) → SizedFrom
 pair rs table m s p q z a b e = record {
   first = p;
   second = q;
-  first_stands = a;
-  second_stands = b;
   first_size = z.sizes (m + 1) p (omega arith) a;
   second_size = z.sizes (m + 1 + size p) q (omega arith) b;
   whole = omega arith;
@@ -102,7 +98,6 @@ small rs m l (star p) h = absurd (omega (arith, kind_is rs m (star p) h))
 -- a node with one part
 pub record Single (rs : List Row) (table : List ℕ) (m : ℕ) (s : Tree) : Type 0 where
   pub part : Tree
-  pub part_stands : Stands rs (m + 1) part
   pub part_size : get_or table (m + 1) 0 ≡ size part
   pub whole : size s ≡ 1 + size part
   pub within : m + 1 + size part ≤ length rs
@@ -115,7 +110,6 @@ as_single rs table m z l (choice p q) h = absurd (omega (arith, kind_is rs m (ch
 as_single rs table m z l (sequence p q) h = absurd (omega (arith, kind_is rs m (sequence p q) h))
 as_single rs table m z l (star p) h = record {
   part = p;
-  part_stands = star_part rs m p h;
   part_size = z.sizes (m + 1) p (omega arith) (star_part rs m p h);
   whole = omega arith;
   within = stands_within rs (m + 1) p (star_part rs m p h);

@@ -11,12 +11,13 @@ use Rattle.policies.specs.Orders.{Order, Decided, Replaced}
 use Rattle.matcher.specs.declared.frame.Frame.{Frame}
 use Rattle.matcher.specs.declared.frame.Spot.{Spot}
 use Rattle.rules.specs.Nodes.{Stands}
-use Rattle.matcher.specs.Sizes.{Sized}
-use Rattle.matcher.specs.Frames.{frame_rows, second_node, Laid, On}
+use Rattle.matcher.specs.Frames.{second_node, Laid, On}
 use Rattle.matcher.specs.Unpacking.{place, cell, unpacked}
 use Rattle.matcher.specs.Benches.{Grown, Held, Solved, Right}
 use Rattle.matcher.specs.States.{Reach, Told, BothTold, Present, Keeps, Settled, Got, BothCoded, Prepared, Ready}
 use Rattle.rules.proofs.Nodes.{choice_first, choice_second, sequence_first, sequence_second}
+use Rattle.matcher.proofs.AtSpot.{names}
+use Rattle.matcher.proofs.Halves.{front_moved, back_moved}
 use Rattle.matcher.proofs.Nodes.{kind_at, found}
 use Rattle.matcher.proofs.Framed.{framed}
 use Rattle.matcher.proofs.Places.{place_in}
@@ -40,36 +41,16 @@ coded_on n bs bs' p q i h j g c =
     record { first_some = omega (arith, x, c.first_some); first_small = omega (arith, x, c.first_small); second_some = omega (arith, y, c.second_some); second_small = omega (arith, y, c.second_small) }
 
 module _ (above : Order) (f : Frame) (w : List Sight) (s : Spot) (on : On f s) where
-  abbrev rs : List Row
-  rs = frame_rows f
+  open (names f s) use {rs, n, m, i, j}
+  open on use {start as l, end as u}
+  open (framed f) use {sizes as sized, few}
 
-  abbrev n : ℕ
-  n = f.symbols
+  module _ (decided : Decided above) (replaced : Replaced above) (kind : kind_at rs m ≡ 2) where
+    abbrev second : ℕ
+    second = second_node f m
 
-  abbrev m : ℕ
-  m = s.node
-
-  abbrev i : ℕ
-  i = s.start
-
-  abbrev j : ℕ
-  j = s.end
-
-  abbrev sized : Sized rs f.sizes
-  sized = (framed f).sizes
-
-  abbrev few : length rs ≤ 64
-  few = (framed f).few
-
-  abbrev l : i ≤ j
-  l = on.start
-
-  abbrev u : j ≤ n
-  u = on.end
-
-  module _ (decided : Decided above) (replaced : Replaced above) (kind : kind_at rs m ≡ 2) (second : ℕ) (is : second ≡ second_node f m) where
     second_is : (p q : Tree) → Stands rs m (choice p q) → second ≡ m + 1 + size p
-    second_is p q h = is ∙ ap (λ k. m + 1 + k) (sized.sizes (m + 1) p (omega arith) (choice_first rs m p q h))
+    second_is p q h = ap (λ k. m + 1 + k) (sized.sizes (m + 1) p (omega arith) (choice_first rs m p q h))
 
     second_at : (p q : Tree) → Stands rs m (choice p q) → Stands rs second q
     second_at p q h = let P : ℕ → Type 0 = λ k. Stands rs k q in subst P (sym (second_is p q h)) (choice_second rs m p q h)
@@ -148,15 +129,15 @@ module _ (above : Order) (f : Frame) (w : List Sight) (s : Spot) (on : On f s) w
         only_reads_two : (t₀ : Tree) → Of rs t₀ → (p q : Tree) → (b : Bound t₀ m (choice p q)) → (0 < cell n four (m + 1 + size p) i j) × (cell n four (m + 1 + size p) i j < 254) × Held above t₀ w n four q (m + 1 + size p) i j (cell n four (m + 1 + size p) i j) → Reads w (choice p q) i j (unpacked n four (choice p q) m (stretch i j) 2)
         only_reads_two t₀ e p q b g = reads_two above decided replaced t₀ (few_nodes rs t₀ e few) w m i j p q b n four g
 
-  module _ (long : length w ≡ n) (after : ℕ) (is : after ≡ second_node f m) where
+  module _ (long : length w ≡ n) where
+    abbrev after : ℕ
+    after = second_node f m
+
     abbrev Below : List ℕ → List ℕ → ℕ → Type 0
     Below bs one k = Prepared above rs w n bs one m (second_node f m) i j k
 
     after_at : (p q : Tree) → Stands rs m (sequence p q) → Stands rs after q
-    after_at p q h = let P : ℕ → Type 0 = λ k. Stands rs k q in subst P (sym (is ∙ ap (λ k. m + 1 + k) (sized.sizes (m + 1) p (omega arith) (sequence_first rs m p q h)))) (sequence_second rs m p q h)
-
-    moved_in : (s : Tree) (x y : List Sight) → x ≡ y → In s x → In s y
-    moved_in s x y e h = let P : List Sight → Type 0 = λ z. In s z in subst P e h
+    after_at p q h = let P : ℕ → Type 0 = λ k. Stands rs k q in subst P (sym (ap (λ k. m + 1 + k) (sized.sizes (m + 1) p (omega arith) (sequence_first rs m p q h)))) (sequence_second rs m p q h)
 
     pub prepared_none : (bs : List ℕ) (a b : ℕ) → Reach rs (m + 1) after i j a b → Right above rs w n bs → Below bs bs a
     prepared_none bs a b f r = record {
@@ -182,7 +163,7 @@ module _ (above : Order) (f : Frame) (w : List Sight) (s : Spot) (on : On f s) w
       grown = grown_on bs one two past.grown g;
       coded = λ p q h d x y c z. elim (ℕ_discrete d k) [
         | yes e ↦ (let P : ℕ → Type 0 = λ v. BothCoded n two (m + 1) (second_node f m) i v j in
-            subst P (sym e) (new p q h (moved_in p (part w i d) (part w i k) (ap (λ v. part w i v) e) c) (moved_in q (part w d j) (part w k j) (ap (λ v. part w v j) e) z)))
+            subst P (sym e) (new p q h (front_moved w e p i c) (back_moved w e q j z)))
         | no e ↦ coded_on n one two (m + 1) (second_node f m) i d j g (past.coded p q h d x (omega arith) c z)
       ];
     }
@@ -196,7 +177,7 @@ module _ (above : Order) (f : Frame) (w : List Sight) (s : Spot) (on : On f s) w
     prepared_solved bs one two three four k r f t p q =
         let c = q.grown.at (place n (m + 1) i k) p.some p.small in
         more bs one four k (grown_on one three four (grown_on one two three (marked_grown one two t.marked) p.grown) q.grown) q.right f
-        (λ _ _ _ _ _. let Q : ℕ → Type 0 = λ v. BothCoded n four (m + 1) v i k j in subst Q is (record { first_some = omega (arith, c, p.some); first_small = omega (arith, c, p.small); second_some = q.some; second_small = q.small }))
+        (λ _ _ _ _ _. record { first_some = omega (arith, c, p.some); first_small = omega (arith, c, p.small); second_some = q.some; second_small = q.small })
 
     pub ready_at : (bs one : List ℕ) → Present rs w m i j → Below bs one (j + 1) → Ready above rs w n one m (second_node f m) i j
     ready_at bs one present f = record { long = long; right = f.right; present = present; coded = λ p q h d x y c z. f.coded p q h d x (omega arith) c z }

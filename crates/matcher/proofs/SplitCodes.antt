@@ -1,7 +1,6 @@
 -- The best split of a sequence, split by split.
-use Rattle.std.proofs.Common.{◌≡◌, ℕ, ◌+◌, ◌-◌, ◌<◌, ◌≤◌, ◌⊎◌, List, ◌∷◌, ◌++◌, length, get_or, sym, refl, ap, ◌∙◌, subst, inl, inr, arith}
+use Rattle.std.proofs.Common.{◌≡◌, ℕ, ◌+◌, ◌-◌, ◌<◌, ◌≤◌, ◌⊎◌, List, ◌∷◌, ◌++◌, get_or, sym, refl, ap, ◌∙◌, subst, inl, inr, arith}
 use native.Mathlib.Decide.{ℕ_discrete}
-use Rattle.rules.specs.declared.row.Row.{Row}
 use Rattle.rules.specs.Trees.{Tree, sequence, size, rows, Of, Bound}
 use Rattle.rules.specs.Languages.{Sight, In, part}
 use Rattle.rules.specs.Readings.{Reading, Reads, reads_sequence, stretch}
@@ -11,11 +10,12 @@ use Rattle.policies.specs.Orders.{Order, Decided, Replaced}
 use Rattle.matcher.specs.declared.frame.Frame.{Frame}
 use Rattle.matcher.specs.declared.frame.Spot.{Spot}
 use Rattle.rules.specs.Nodes.{Stands}
-use Rattle.matcher.specs.Sizes.{Sized}
-use Rattle.matcher.specs.Frames.{frame_rows, second_node, On}
+use Rattle.matcher.specs.Frames.{second_node, On}
 use Rattle.matcher.specs.Unpacking.{cell, unpacked}
 use Rattle.matcher.specs.Benches.{Grown, AtLeast, Held}
 use Rattle.matcher.specs.States.{Reach, Keeps, Coded, BothCoded, Ready, BestBelow}
+use Rattle.matcher.proofs.AtSpot.{names}
+use Rattle.matcher.proofs.Halves.{front_moved, back_moved}
 use Rattle.matcher.proofs.Framed.{framed}
 use Rattle.rules.proofs.Nodes.{sequence_first, sequence_second}
 use Rattle.matcher.proofs.Nodes.{Found, found, kind_at}
@@ -66,38 +66,9 @@ module _ (above : Order) (decided : Decided above) (replaced : Replaced above) (
 
 -- the splits of a sequence whose codes are all in the bench
 module _ (above : Order) (decided : Decided above) (replaced : Replaced above) (f : Frame) (w : List Sight) (s : Spot) (on : On f s) where
-  abbrev rs : List Row
-  rs = frame_rows f
-
-  abbrev table : List ℕ
-  table = f.sizes
-
-  abbrev n : ℕ
-  n = f.symbols
-
-  abbrev m : ℕ
-  m = s.node
-
-  abbrev i : ℕ
-  i = s.start
-
-  abbrev j : ℕ
-  j = s.end
-
-  abbrev sized : Sized rs table
-  sized = (framed f).sizes
-
-  abbrev few : length rs ≤ 64
-  few = (framed f).few
-
-  abbrev short : n ≤ 120
-  short = f.short
-
-  abbrev l : i ≤ j
-  l = on.start
-
-  abbrev u : j ≤ n
-  u = on.end
+  open (names f s) use {rs, n, m, i, j}
+  open on use {start as l, end as u}
+  open (framed f) use {sizes as sized, few}
 
   abbrev second : ℕ
   second = second_node f m
@@ -117,7 +88,7 @@ module _ (above : Order) (decided : Decided above) (replaced : Replaced above) (
 
     -- the reading of a split
     module _ (t : Tree) (e : Of rs t) (p q : Tree) (bound : Bound t m (sequence p q)) where
-      size_is : get_or table (m + 1) 0 ≡ size p
+      size_is : get_or f.sizes (m + 1) 0 ≡ size p
       size_is = sized.sizes (m + 1) p (omega arith) (sequence_first rs m p q (bound_stands rs t (sequence p q) m e bound))
 
       module _ (k : ℕ) (x : i ≤ k) (y : k ≤ j) (c : BothCoded n bs (m + 1) second i k j) where
@@ -166,9 +137,6 @@ module _ (above : Order) (decided : Decided above) (replaced : Replaced above) (
         outranks = λ t e p q c d y z x f ry rz. let o = read_inside t e p q c d y z x ry rz in s.outranks t e p q c d y z x (omega (arith, o.1)) ry rz;
       }
 
-    moved_in : (s : Tree) (x y : List Sight) → x ≡ y → In s x → In s y
-    moved_in s x y e h = let P : List Sight → Type 0 = λ z. In s z in subst P e h
-
     -- a split that has not both codes has not both halves
     pub below_skip : (k r : ℕ) → k ≤ j → (BothCoded n bs (m + 1) second i k j → ⊥) → Below k r → Below (k + 1) r
     below_skip k r y f s = record {
@@ -181,7 +149,7 @@ module _ (above : Order) (decided : Decided above) (replaced : Replaced above) (
     }
       where
         lost : (p q : Tree) → Stands rs m (sequence p q) → (d : ℕ) → i ≤ d → d ≡ k → In p (part w i d) → In q (part w d j) → ⊥
-        lost p q h d x e c z = f (ready.coded p q h k (omega arith) y (moved_in p (part w i d) (part w i k) (ap (λ v. part w i v) e) c) (moved_in q (part w d j) (part w k j) (ap (λ v. part w v j) e) z))
+        lost p q h d x e c z = f (ready.coded p q h k (omega arith) y (front_moved w e p i c) (back_moved w e q j z))
 
     module _ (k r v : ℕ) (x : i ≤ k) (y : k ≤ j) (coded : BothCoded n bs (m + 1) second i k j) (below : Below k r)
         (either : (v ≡ r) ⊎ (v ≡ k - i + 1)) (none : r ≡ 0 → v ≡ k - i + 1) (keeps : Keeps above rs n bs m i j r (k - i + 1) v) where

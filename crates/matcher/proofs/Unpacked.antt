@@ -12,9 +12,6 @@ use Rattle.matcher.proofs.Nodes.{kind_at, kind_is}
 use borrow.Rule.Slice.PartMut.{put_mid}
 
 module _ {X : Type 0} (xs : List X) (x : X) (ys zs : List X) (a b : ℕ) (long : length xs ≡ 1 + a + b) where
-  pub first_fits : 1 + a ≤ length (set xs 0 x)
-  first_fits = omega (arith, length-set xs 0 x)
-
   pub first_long : length (take (1 + a - 1) (drop 1 (set xs 0 x))) ≡ a
   first_long = omega (arith, length-take (1 + a - 1) (drop 1 (set xs 0 x)), length-drop 1 (set xs 0 x), length-set xs 0 x)
 
@@ -22,9 +19,6 @@ module _ {X : Type 0} (xs : List X) (x : X) (ys zs : List X) (a b : ℕ) (long :
   half_long e =
       let k : ℕ = 1 + a - 1 in
       omega (arith, length-append (take 1 (set xs 0 x)) (ys ++ drop k (drop 1 (set xs 0 x))), length-append ys (drop k (drop 1 (set xs 0 x))), length-take 1 (set xs 0 x), length-drop k (drop 1 (set xs 0 x)), length-drop 1 (set xs 0 x), length-set xs 0 x)
-
-  pub second_fits : length ys ≡ a → 1 + a ≤ length (put_mid 1 (1 + a - 1) (set xs 0 x) ys)
-  second_fits e = omega (arith, half_long e)
 
 take_head : {X : Type 0} (x : X) (ys r : List X) (a : ℕ) → length ys ≡ a → take (1 + a) (x ∷ (ys ++ r)) ≡ x ∷ ys
 take_head {X} x ys r a e = rw one-add (ap (λ (l : List X). x ∷ l) (take_at ys r a e))

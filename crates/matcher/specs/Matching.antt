@@ -1,5 +1,5 @@
 -- What best_reading answers: the best reading of a name by a rule, or why there is none. Assumes nothing.
-use Rattle.std.specs.Prelude.{◌≡◌, ℕ, ◌+◌, ◌*◌, ◌≤◌, Bool, true, false, List, ◌++◌, length, drop, Result, Ok, Err}
+use Rattle.std.specs.Prelude.{◌≡◌, ℕ, ◌+◌, ◌*◌, ◌≤◌, List, ◌++◌, length, drop, Result, Ok, Err}
 use Rattle.rules.specs.Trees.{Tree, size}
 use Rattle.rules.specs.Languages.{Sight, In}
 use Rattle.rules.specs.Readings.{Reading}
@@ -22,8 +22,3 @@ abbrev pub Outcome : Order → Tree → List Sight → List ℕ → List ℕ →
 Outcome above t w bench bench' report report' (Err Unfit) = (Fit t w bench report → ⊥) × (report' ≡ report) × (bench' ≡ bench)
 Outcome above t w bench bench' report report' (Err NotRead) = Fit t w bench report × (In t w → ⊥) × (report' ≡ report)
 Outcome above t w bench bench' report report' (Ok done) = Fit t w bench report × ((x : Reading) × Best above t w x × (report' ≡ x ++ drop (size t) report))
-
--- whether the name w was read by the rule t into the entries out, which stay where it was not
-abbrev pub Read : Order → Tree → List Sight → Reading → Reading → Bool → Type 0
-Read above t w out out' true = Best above t w out'
-Read above t w out out' false = (In t w → ⊥) × (out' ≡ out)

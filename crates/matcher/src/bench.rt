@@ -1,4 +1,4 @@
-ghost use Rattle.std.specs.Prelude.{◌≡◌, ◌<◌, ◌≤◌, true, false, length, ◌≢◌, slice_set};
+ghost use Rattle.std.specs.Prelude.{◌≡◌, ◌<◌, true, false, ◌≢◌, slice_set};
 ghost use Rattle.matcher.specs.Cells.{cell_byte, CellOf};
 ghost use Rattle.matcher.specs.Frames.{Laid, Blank, On, spot_cell, spot_place};
 ghost use Rattle.matcher.specs.States.{BothCoded};
@@ -41,7 +41,7 @@ impl Cell {
     }
 }
 
-impl<'a> Frame<'a> {
+impl Frame<'_> {
     // Where the cell of a spot stands.
     fn place(&self, spot: Spot) -> usize
         requires { On self.now spot }
@@ -51,6 +51,7 @@ impl<'a> Frame<'a> {
         (spot.node * wide + spot.start) * wide + spot.end
     }
 
+    // The byte of a spot's cell.
     pub(crate) fn byte(&self, bench: &[u8], spot: Spot) -> u8
         requires room { Laid self.now bench.now }
         requires on { On self.now spot }
@@ -59,6 +60,7 @@ impl<'a> Frame<'a> {
         bench[self.place(spot)]
     }
 
+    // What the bench knows of a spot.
     pub(crate) fn look(&self, bench: &[u8], spot: Spot) -> Cell
         requires room { Laid self.now bench.now }
         requires on { On self.now spot }

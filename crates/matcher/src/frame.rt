@@ -1,4 +1,4 @@
-ghost use Rattle.std.specs.Prelude.{◌≤◌};
+ghost use Rattle.std.specs.Prelude.{◌≡◌, ◌≤◌};
 ghost use Rattle.rules.specs.RuleRows.{rule_rows};
 ghost use Rattle.matcher.specs.Sizes.{Sized};
 
@@ -24,4 +24,20 @@ pub(crate) struct Spot {
     pub(crate) node: usize,
     pub(crate) start: usize,
     pub(crate) end: usize,
+}
+
+impl Spot {
+    // The same node, on the part of the stretch before k.
+    pub(crate) fn front(self, k: usize) -> Spot
+        ensures { result ≡ record self { end = k } }
+    {
+        Spot { end: k, ..self }
+    }
+
+    // The same node, on the part of the stretch from k on.
+    pub(crate) fn back(self, k: usize) -> Spot
+        ensures { result ≡ record self { start = k } }
+    {
+        Spot { start: k, ..self }
+    }
 }

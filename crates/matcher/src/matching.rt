@@ -3,7 +3,7 @@ ghost use Rattle.rules.specs.Trees.{Tree, Of};
 ghost use Rattle.rules.specs.RuleRows.{rule_rows};
 ghost use Rattle.rules.specs.Languages.{seen};
 ghost use Rattle.matcher.specs.Frames.{frame_rows, Laid};
-ghost use Rattle.matcher.specs.Matching.{Fits, Outcome, Read};
+ghost use Rattle.matcher.specs.Matching.{Fits, Outcome};
 ghost use Rattle.matcher.specs.Searches.{word};
 
 use crate::frame::{Frame, Spot};
@@ -32,12 +32,16 @@ fn fits(nodes: usize, symbols: usize, bench: usize, report: usize) -> bool
     symbols <= LONGEST && nodes * (symbols + 1) * (symbols + 1) <= bench && nodes <= report
 }
 
-impl<'a, A: Alphabet, P: Policy> Search<'a, A, P> {
-    // Writes the best reading of the whole name, if there is one, and says whether there is.
-    fn read_whole(&self, bench: &mut [u8], out: &mut [Option<(usize, usize)>]) -> bool
+impl<A: Alphabet, P: Policy> Search<'_, A, P> {
+    // Writes the best reading of the whole name, if there is one.
+    fn read_whole(
+        &self,
+        bench: &mut [u8],
+        out: &mut [Option<(usize, usize)>],
+    ) -> Result<(), Unmatched>
         requires laid { Laid self.now.frame bench.old }
         requires long { length out.old ≡ length (frame_rows self.now.frame) }
-        ensures { (t : Tree) → Of (frame_rows self.now.frame) t → Read (P.Policy.above self.now.policy.now) t (word self.now) out.old out.new result }
+        ensures { (t : Tree) → Of (frame_rows self.now.frame) t → Outcome (P.Policy.above self.now.policy.now) t (word self.now) bench.old bench.new out.old out.new result }
     {
         let symbols = self.frame.symbols;
         self.frame.wipe(bench);
@@ -47,7 +51,7 @@ impl<'a, A: Alphabet, P: Policy> Search<'a, A, P> {
             end: symbols,
         };
         if !self.has(bench, root) {
-            return false;
+            return Err(Unmatched::NotRead);
         }
         let mut pad = Pad {
             best: [None; 64],
@@ -56,7 +60,7 @@ impl<'a, A: Alphabet, P: Policy> Search<'a, A, P> {
         self.solve(bench, &mut pad, root);
         let code = self.frame.byte(bench, root);
         self.frame.unpack(bench, 0, Some((0, symbols)), code, out);
-        true
+        Ok(())
     }
 }
 
@@ -82,8 +86,5 @@ pub fn best_reading<A: Alphabet, P: Policy>(
         policy,
         name,
     };
-    if !search.read_whole(bench, &mut report[..nodes]) {
-        return Err(Unmatched::NotRead);
-    }
-    Ok(())
+    search.read_whole(bench, &mut report[..nodes])
 }

@@ -1,4 +1,4 @@
-ghost use Rattle.std.specs.Prelude.{◌≡◌, ◌<◌, ◌≤◌};
+ghost use Rattle.std.specs.Prelude.{◌≡◌};
 ghost use Rattle.rules.specs.Trees.{leaf};
 ghost use Rattle.rules.specs.Languages.{seen};
 ghost use Rattle.matcher.specs.Frames.{frame_kind};
@@ -20,7 +20,7 @@ fn leaf_has<A: Alphabet>(alphabet: &A, row: Row, stretch: &[A::Symbol]) -> bool
     }
 }
 
-impl<'a, A: Alphabet, P> Search<'a, A, P> {
+impl<A: Alphabet, P> Search<'_, A, P> {
     // Whether the node has the stretch.
     #[cycle(membership)]
     pub(crate) fn has(&self, bench: &mut [u8], spot: Spot) -> bool
@@ -29,8 +29,7 @@ impl<'a, A: Alphabet, P> Search<'a, A, P> {
     {
         match self.frame.look(bench, spot) {
             Cell::Lacks => false,
-            Cell::Has => true,
-            Cell::Code(_) => true,
+            Cell::Has | Cell::Code(_) => true,
             Cell::Unknown => {
                 let found = self.has_anew(bench, spot);
                 self.frame.mark(bench, spot, found);
@@ -64,14 +63,7 @@ impl<'a, A: Alphabet, P> Search<'a, A, P> {
         requires kind { frame_kind self.now.frame spot.node ≡ 2 }
         ensures { ToldAt self.now.frame (word self.now) bench.old bench.new spot result }
     {
-        let first = Spot {
-            node: spot.node + 1,
-            ..spot
-        };
-        let second = Spot {
-            node: self.frame.second(spot.node),
-            ..spot
-        };
+        let (first, second) = self.frame.parts(spot);
         self.has(bench, first) || self.has(bench, second)
     }
 
@@ -82,21 +74,10 @@ impl<'a, A: Alphabet, P> Search<'a, A, P> {
         requires kind { frame_kind self.now.frame spot.node ≡ 3 }
         ensures { ToldAt self.now.frame (word self.now) bench.old bench.new spot result }
     {
-        let first = spot.node + 1;
-        let second = self.frame.second(spot.node);
-        let splits = self.frame.splits(first, second, spot.start, spot.end);
-        for k in splits.start..splits.end {
-            let front = Spot {
-                node: first,
-                end: k,
-                ..spot
-            };
-            let back = Spot {
-                node: second,
-                start: k,
-                ..spot
-            };
-            if self.has_both(bench, front, back) {
+        let (first, second) = self.frame.parts(spot);
+        let splits = self.frame.splits(first, second.node);
+        for k in splits {
+            if self.has_both(bench, first.front(k), second.back(k)) {
                 return true;
             }
         }
@@ -113,15 +94,13 @@ impl<'a, A: Alphabet, P> Search<'a, A, P> {
         if spot.start == spot.end {
             return true;
         }
-        let round = spot.node + 1;
-        let splits = self.frame.splits(round, spot.node, spot.start, spot.end);
+        let round = Spot {
+            node: spot.node + 1,
+            ..spot
+        };
+        let splits = self.frame.splits(round, spot.node);
         for k in spot.start + 1..splits.end {
-            let front = Spot {
-                node: round,
-                end: k,
-                ..spot
-            };
-            if self.has_both(bench, front, Spot { start: k, ..spot }) {
+            if self.has_both(bench, round.front(k), spot.back(k)) {
                 return true;
             }
         }

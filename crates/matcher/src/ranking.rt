@@ -15,7 +15,8 @@ pub(crate) struct Pad {
     pub(crate) next: [Option<(usize, usize)>; 64],
 }
 
-// The best code so far: alone, or compared already, so that the pad shows its reading.
+// The best code so far: alone, or compared already, so that the pad shows its reading. Here and in `better` and `best_split` a code
+// stays a byte, since a cell of the bench is one.
 #[derive(Clone, Copy)]
 pub(crate) enum Leader {
     Alone(u8),
@@ -27,13 +28,12 @@ impl Leader {
         ensures { result ≡ leader_code self }
     {
         match self {
-            Leader::Alone(code) => code,
-            Leader::Shown(code) => code,
+            Leader::Alone(code) | Leader::Shown(code) => code,
         }
     }
 }
 
-impl<'a, A: Alphabet, P: Policy> Search<'a, A, P> {
+impl<A: Alphabet, P: Policy> Search<'_, A, P> {
     // Of two codes of a spot, the one whose reading outranks.
     pub(crate) fn better(
         &self,
@@ -88,22 +88,11 @@ impl<'a, A: Alphabet, P: Policy> Search<'a, A, P> {
         requires ready { ReadyAt (P.Policy.above self.now.policy.now) self.now.frame (word self.now) bench.now spot }
         ensures { CodedAt (P.Policy.above self.now.policy.now) self.now.frame (word self.now) bench.now spot result }
     {
-        let first = spot.node + 1;
-        let second = self.frame.second(spot.node);
-        let splits = self.frame.splits(first, second, spot.start, spot.end);
+        let (first, second) = self.frame.parts(spot);
+        let splits = self.frame.splits(first, second.node);
         let mut best = None;
-        for k in splits.start..splits.end {
-            let front = Spot {
-                node: first,
-                end: k,
-                ..spot
-            };
-            let back = Spot {
-                node: second,
-                start: k,
-                ..spot
-            };
-            if self.frame.both_coded(bench, front, back) {
+        for k in splits {
+            if self.frame.both_coded(bench, first.front(k), second.back(k)) {
                 let code = (k - spot.start + 1) as u8;
                 best = Some(match best {
                     Some(leader) => self.better(bench, spot, leader, code, pad),

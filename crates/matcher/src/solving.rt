@@ -9,8 +9,8 @@ use crate::search::Search;
 use policies::Policy;
 use rules::{Alphabet, Kind};
 
-// Bench and pad stay two parameters, since `has` takes the bench alone.
-impl<'a, A: Alphabet, P: Policy> Search<'a, A, P> {
+// Bench and pad stay two parameters, since `has` takes the bench alone. Codes stay bytes, since the bench's cells are bytes.
+impl<A: Alphabet, P: Policy> Search<'_, A, P> {
     // Finds the code of the best reading of a stretch that the node has.
     #[cycle(solving)]
     pub(crate) fn solve(&self, bench: &mut [u8], pad: &mut Pad, spot: Spot)
@@ -38,7 +38,7 @@ impl<'a, A: Alphabet, P: Policy> Search<'a, A, P> {
                 self.solve_splits(bench, pad, spot);
                 self.best_split(bench, spot, pad)
             }
-            _ => 1,
+            Kind::Empty | Kind::Leaf | Kind::Star => 1,
         }
     }
 
@@ -50,14 +50,7 @@ impl<'a, A: Alphabet, P: Policy> Search<'a, A, P> {
         requires kind { frame_kind self.now.frame spot.node ≡ 2 }
         ensures { GotAt (P.Policy.above self.now.policy.now) self.now.frame (word self.now) bench.old bench.new spot result }
     {
-        let first = Spot {
-            node: spot.node + 1,
-            ..spot
-        };
-        let second = Spot {
-            node: self.frame.second(spot.node),
-            ..spot
-        };
+        let (first, second) = self.frame.parts(spot);
         if !self.has(bench, first) {
             self.solve(bench, pad, second);
             return 2;
@@ -78,20 +71,10 @@ impl<'a, A: Alphabet, P: Policy> Search<'a, A, P> {
         requires kind { frame_kind self.now.frame spot.node ≡ 3 }
         ensures { PreparedAt (P.Policy.above self.now.policy.now) self.now.frame (word self.now) bench.old bench.new spot (spot.end + 1) }
     {
-        let first = spot.node + 1;
-        let second = self.frame.second(spot.node);
-        let splits = self.frame.splits(first, second, spot.start, spot.end);
-        for k in splits.start..splits.end {
-            let front = Spot {
-                node: first,
-                end: k,
-                ..spot
-            };
-            let back = Spot {
-                node: second,
-                start: k,
-                ..spot
-            };
+        let (first, second) = self.frame.parts(spot);
+        let splits = self.frame.splits(first, second.node);
+        for k in splits {
+            let (front, back) = (first.front(k), second.back(k));
             if self.has_both(bench, front, back) {
                 self.solve(bench, pad, front);
                 self.solve(bench, pad, back);

@@ -8,6 +8,9 @@ ghost use Rattle.matcher.specs.Unpacking.{Within, cut as Cut, first_share, secon
 use crate::frame::{Frame, Spot};
 use rules::Kind;
 
+// In this file a code stays a byte, since a cell of the bench is one, and a stretch an Option of a pair, since a report's entry is. The
+// code is 0 where there is no stretch: that nothing was taken is said by the stretch, and the code is not looked at.
+
 // Where a sequence's code cuts the stretch: 1 at its start, and each next code one symbol on.
 fn cut(start: usize, end: usize, code: u8) -> usize
     requires order { start ≤ end }
@@ -43,7 +46,7 @@ fn shares(
     }
 }
 
-impl<'a> Frame<'a> {
+impl Frame<'_> {
     // The byte of the cell for a node's stretch, or 0 where it has none.
     fn code_at(&self, bench: &[u8], node: usize, stretch: Option<(usize, usize)>) -> u8
         requires room { Laid self.now bench.now }
@@ -77,7 +80,7 @@ impl<'a> Frame<'a> {
         match self.kind(node) {
             Kind::Empty | Kind::Leaf => {}
             Kind::Star => self.unpack(bench, node + 1, None, 0, &mut out[1..]),
-            kind => {
+            kind @ (Kind::Choice | Kind::Sequence) => {
                 let first = node + 1;
                 let second = self.second(node);
                 let size = self.sizes[first] as usize;

@@ -1,12 +1,12 @@
-ghost use Rattle.std.specs.Prelude.{◌≡◌, ◌+◌, ◌<◌, ◌≤◌, length, slice_index, slice_index_or};
+ghost use Rattle.std.specs.Prelude.{◌≡◌, ◌+◌, ◌<◌, ◌≤◌, length, slice_index_or};
 ghost use Rattle.rules.specs.Kinds.{kind_number};
 ghost use Rattle.rules.specs.Trees.{Tree, row as Line, size};
-ghost use Rattle.rules.specs.RuleRows.{Ruled, rule_rows};
+ghost use Rattle.rules.specs.RuleRows.{rule_rows};
 ghost use Rattle.matcher.specs.Frames.{frame_rows, frame_kind, second_node};
 ghost use Rattle.rules.specs.Nodes.{Stands};
 ghost use Rattle.matcher.specs.Sizes.{Sized, SizedFrom, Paired, PairRoom};
 
-use super::Frame;
+use super::{Frame, Spot};
 use rules::{Kind, Row, Rule};
 
 // The kind of a rule's node.
@@ -27,8 +27,7 @@ fn size_at(rule: &Rule, sizes: &[u8], node: usize) -> u8
     ensures { (s : Tree) → Stands (rule_rows rule.now) node s → result ≡ size s }
 {
     match kind_at(rule, node) {
-        Kind::Empty => 1,
-        Kind::Leaf => 1,
+        Kind::Empty | Kind::Leaf => 1,
         Kind::Star => 1 + sizes[node + 1],
         Kind::Choice | Kind::Sequence => {
             let first = sizes[node + 1];
@@ -85,5 +84,24 @@ impl<'a> Frame<'a> {
         ensures within { PairRoom (frame_rows self.now) self.now.sizes node }
     {
         node + 1 + self.sizes[node + 1] as usize
+    }
+
+    // The two parts of a choice or a sequence, on the node's own stretch.
+    pub(crate) fn parts(&self, spot: Spot) -> (Spot, Spot)
+        requires inside { spot.node < length (frame_rows self.now) }
+        requires pair { Paired (frame_kind self.now spot.node) }
+        ensures first { result.0 ≡ record spot { node = spot.node + 1 } }
+        ensures second { result.1 ≡ record spot { node = second_node self.now spot.node } }
+        ensures within { PairRoom (frame_rows self.now) self.now.sizes spot.node }
+    {
+        let first = Spot {
+            node: spot.node + 1,
+            ..spot
+        };
+        let second = Spot {
+            node: self.second(spot.node),
+            ..spot
+        };
+        (first, second)
     }
 }

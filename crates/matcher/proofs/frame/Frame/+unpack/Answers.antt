@@ -2,7 +2,7 @@ use Rattle.std.proofs.Common.{◌≡◌, ◌+◌, ◌<◌, length, get_or, ap, �
 use Rattle.matcher.specs.Unpacking.{first_share, second_share}
 use Rattle.matcher.specs.Frames.{frame_rows, frame_kind}
 use Rattle.matcher.proofs.Framed.{framed, frame_single}
-use Rattle.matcher.proofs.KindNumbers.{alone, other_pair}
+use Rattle.matcher.proofs.KindNumbers.{alone, paired}
 use Rattle.matcher.proofs.Nodes.{own_size}
 use Rattle.matcher.proofs.Unpacked.{written, written_one, first_long, rest_long, rest_fits, unpacked_pair, unpacked_single, unpacked_alone}
 use Rattle.matcher.proofs.frame.Frame.+unpack.Goals as goal
@@ -35,14 +35,14 @@ returns-in-Star t c s h =
     written_one c.args.out.now c.args.stretch c.unpack.new.out (omega (arith, c.requires.long, p.own))
     ∙ unpacked_single (frame_rows c.args.self.now) c.args.self.now.sizes c.args.self.now.symbols c.args.bench.now c.args.node c.args.stretch c.args.code (framed c.args.self.now).sizes k c.unpack.new.out c.unpack.ensures s h
 
-pub returns-in_default : goal.returns-in_default
-returns-in_default t c s h =
-    let q = other_pair _ _ c.kind.ensures c.in_default.not-Empty c.in_default.not-Leaf c.in_default.not-Star in
+pub returns-in-Choice : goal.returns-in-Choice
+returns-in-Choice t c s h =
+    let q = paired _ _ c.kind.ensures c.in-Choice.is in
     let long = c.requires.long ∙ c.second-second.ensures.within.own in
-    let k : length c.unpack-in_default.new.out ≡ get_or c.args.self.now.sizes (c.args.node + 1) 0 = c.unpack-in_default.auto.out ∙ first_long c.args.out.now c.args.stretch c.unpack-in_default.new.out c.unpack-in_default.new.out (get_or c.args.self.now.sizes (c.args.node + 1) 0) (get_or c.args.self.now.sizes (c.args.node + 1 + get_or c.args.self.now.sizes (c.args.node + 1) 0) 0) long in
-    written c.args.out.now c.args.stretch c.unpack-in_default.new.out c.unpack-in_default-2.new.out (get_or c.args.self.now.sizes (c.args.node + 1) 0) (get_or c.args.self.now.sizes (c.args.node + 1 + get_or c.args.self.now.sizes (c.args.node + 1) 0) 0) long k
+    let k : length c.unpack-in-Choice.new.out ≡ get_or c.args.self.now.sizes (c.args.node + 1) 0 = c.unpack-in-Choice.auto.out ∙ first_long c.args.out.now c.args.stretch c.unpack-in-Choice.new.out c.unpack-in-Choice.new.out (get_or c.args.self.now.sizes (c.args.node + 1) 0) (get_or c.args.self.now.sizes (c.args.node + 1 + get_or c.args.self.now.sizes (c.args.node + 1) 0) 0) long in
+    written c.args.out.now c.args.stretch c.unpack-in-Choice.new.out c.unpack-in-Choice-2.new.out (get_or c.args.self.now.sizes (c.args.node + 1) 0) (get_or c.args.self.now.sizes (c.args.node + 1 + get_or c.args.self.now.sizes (c.args.node + 1) 0) 0) long k
     ∙ unpacked_pair (frame_rows c.args.self.now) c.args.self.now.sizes c.args.self.now.symbols c.args.bench.now c.args.node c.args.stretch c.args.code (framed c.args.self.now).sizes q.low q.high c.second-second.result c.second-second.ensures.is
-    c.shares-one.result.0 c.shares-one.result.1 c.code_at-left.result c.code_at-right.result c.unpack-in_default.new.out c.unpack-in_default-2.new.out
+    c.shares-one.result.0 c.shares-one.result.1 c.code_at-left.result c.code_at-right.result c.unpack-in-Choice.new.out c.unpack-in-Choice-2.new.out
     (c.shares-one.ensures.first ∙ ap (λ k. first_share k c.args.stretch c.args.code) c.kind.ensures)
     (c.shares-one.ensures.second ∙ ap (λ k. second_share k c.args.stretch c.args.code) c.kind.ensures)
-    c.code_at-left.ensures c.code_at-right.ensures c.unpack-in_default.ensures c.unpack-in_default-2.ensures s h
+    c.code_at-left.ensures c.code_at-right.ensures c.unpack-in-Choice.ensures c.unpack-in-Choice-2.ensures s h

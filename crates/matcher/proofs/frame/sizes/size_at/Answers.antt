@@ -2,7 +2,7 @@ use Rattle.std.proofs.Common.{◌≡◌, ℕ, ◌+◌, List, get_or, arith}
 use Rattle.rules.specs.Trees.{size}
 use Rattle.rules.specs.RuleRows.{rule_rows}
 use Rattle.matcher.proofs.Framed.{rule_ruled, rule_few}
-use Rattle.matcher.proofs.KindNumbers.{paired}
+use Rattle.matcher.proofs.KindNumbers.{alone, paired}
 use Rattle.matcher.proofs.Nodes.{found, small, as_pair, as_single}
 use Rattle.matcher.proofs.frame.sizes.size_at.Goals as goal
 
@@ -50,12 +50,6 @@ overflow_add-result-in-Choice-4 c =
     let e = both_sizes c.args.sizes.now c.args.node (size p.first) (size p.second) p.first_size p.second_size in
     omega (arith, p.within, p.first_size, rule_few c.args.rule.now)
 
-pub returns-in-Empty : goal.returns-in-Empty
-returns-in-Empty c = small (rule_rows c.args.rule.now) c.args.node (omega (arith, c.in-Empty.ensures))
-
-pub returns-in-Leaf : goal.returns-in-Leaf
-returns-in-Leaf c = small (rule_rows c.args.rule.now) c.args.node (omega (arith, c.in-Leaf.ensures))
-
 pub returns-in-Star : goal.returns-in-Star
 returns-in-Star c s h =
     let p = as_single (rule_rows c.args.rule.now) c.args.sizes.now c.args.node c.requires.behind (omega (arith, c.in-Star.ensures)) s h in
@@ -67,3 +61,6 @@ returns-in-Choice c s h =
     let p = as_pair (rule_rows c.args.rule.now) c.args.sizes.now c.args.node c.requires.behind k.low k.high s h in
     let e = both_sizes c.args.sizes.now c.args.node (size p.first) (size p.second) p.first_size p.second_size in
     omega (arith, p.first_size, p.whole)
+
+pub returns-in-Empty : goal.returns-in-Empty
+returns-in-Empty c = small (rule_rows c.args.rule.now) c.args.node (alone _ _ c.kind_at.ensures c.in-Empty.is)

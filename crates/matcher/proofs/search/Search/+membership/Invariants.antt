@@ -4,6 +4,7 @@ use Rattle.matcher.specs.declared.frame.Spot.{Spot}
 use Rattle.matcher.specs.Frames.{frame_rows}
 use Rattle.matcher.specs.Searches.{word}
 use Rattle.matcher.specs.States.{NoSplit, NoRound}
+use Rattle.matcher.proofs.Turns.{Left}
 use Rattle.matcher.proofs.search.Search.+membership.Given as goal
 
 abbrev fall : Frame → Spot → ℕ
@@ -28,7 +29,9 @@ abbrev pub decreases-has_both : goal.decreases-has_both
 decreases-has_both g l = max (fall l.self.now.frame l.first) (fall l.self.now.frame l.second) + 4
 
 abbrev pub invariant-has_pair-loop-k : goal.invariant-has_pair-loop-k
-invariant-has_pair-loop-k g l = NoSplit (frame_rows l.self.frame) (word l.self) l.self.frame.symbols l.initial.bench l.bench l.spot.node l.spot.start l.spot.end l.k
+invariant-has_pair-loop-k g l =
+    Left l.initial.k-iterator l.k-iterator
+    × NoSplit (frame_rows l.self.frame) (word l.self) l.self.frame.symbols l.initial.bench l.bench l.fn.spot.node l.fn.spot.start l.fn.spot.end l.k-iterator.start
 
 abbrev pub invariant-has_rounds-loop-k : goal.invariant-has_rounds-loop-k
 invariant-has_rounds-loop-k g l = NoRound (frame_rows l.self.frame) (word l.self) l.self.frame.symbols l.initial.bench l.bench l.spot.node l.spot.start l.spot.end l.k

@@ -3,6 +3,7 @@ use Rattle.matcher.specs.declared.frame.Frame.{Frame}
 use Rattle.matcher.specs.declared.frame.Spot.{Spot}
 use Rattle.matcher.specs.Frames.{frame_rows}
 use Rattle.matcher.specs.Searches.{word, PreparedAt}
+use Rattle.matcher.proofs.Turns.{Left}
 use Rattle.matcher.proofs.search.Search.+solving.Given as goal
 
 abbrev fall : Frame → Spot → ℕ
@@ -21,4 +22,6 @@ abbrev pub decreases-solve_splits : goal.decreases-solve_splits
 decreases-solve_splits g l = fall l.self.now.frame l.spot + 1
 
 abbrev pub invariant-solve_splits-loop-k : goal.invariant-solve_splits-loop-k
-invariant-solve_splits-loop-k g l = PreparedAt (g.P.Policy.above l.self.policy.now) l.self.frame (word l.self) l.initial.bench l.bench l.spot l.k
+invariant-solve_splits-loop-k g l =
+    Left l.initial.k-iterator l.k-iterator
+    × PreparedAt (g.P.Policy.above l.self.policy.now) l.self.frame (word l.self) l.initial.bench l.bench l.fn.spot l.k-iterator.start
