@@ -22,7 +22,7 @@ pub enum Unmatched {
 }
 
 // Names are at most this long.
-const LONGEST: usize = 120;
+pub const LONGEST: usize = 120;
 
 fn fits(nodes: usize, symbols: usize, bench: usize, report: usize) -> bool
     requires { nodes ≤ 64 }

@@ -3,13 +3,14 @@ ghost use Rattle.rules.specs.Denials.{numbered};
 ghost use Rattle.sheet.specs.Changes.{unless};
 ghost use Rattle.sheet.specs.Questions.{name_met, bench_met, room_met};
 
+use matcher::matching::LONGEST;
 use rules::Denial;
 
 // 8: the name has over 120 symbols.
 pub(crate) fn check_name(symbols: usize) -> Result<(), Denial>
     ensures { numbered result ≡ unless (name_met symbols) tt }
 {
-    if symbols > 120 {
+    if symbols > LONGEST {
         return Err(Denial::NameTooLong);
     }
     Ok(())
