@@ -41,6 +41,8 @@ impl Cell {
     }
 }
 
+// Frame and bench stay apart: a struct of both would have to say in each call that writes that the frame is the same, and would stand
+// beside the search, which has the frame too. A spot is of no one frame.
 impl Frame<'_> {
     // Where the cell of a spot stands.
     fn place(&self, spot: Spot) -> usize
