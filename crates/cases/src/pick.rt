@@ -7,7 +7,8 @@ use crate::tree::{Entry, Reading};
 use rules::{Kind, Row};
 use std::cmp::Ordering;
 
-// The key of a node where each is to be as long as can be: nothing is below every length.
+// The key of a node where each is to be as long as can be: nothing is below every length. Written here anew, as the policies are
+// checked by it.
 pub fn every_node(_row: &Row, entry: &Entry) -> Option<usize>
     ensures { result ≡ option_map (λ s. s.1 - s.0) entry.now }
 {

@@ -146,7 +146,7 @@ fn every_small_rule(rt: HostRuntime) -> Result<(), Fail> {
     rules_agree(&rt, rt.alloc(), 7776, 5)
 }
 
-// The rule (a|ab)(b|): on ab the POSIX policy and its opposite read differently.
+// The rule (a|ab)(b|): on ab the POSIX policy and its opposite read differently. Written out, since tests do not see another crate's.
 #[test]
 fn policies_differ(rt: HostRuntime) -> Result<(), Fail> {
     let rows = [

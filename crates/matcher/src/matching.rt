@@ -24,6 +24,7 @@ pub enum Unmatched {
 // Names are at most this long.
 pub const LONGEST: usize = 120;
 
+// The bench's size stands in `wipe` and in the sheet's check too, each bounded by what is known there.
 fn fits(nodes: usize, symbols: usize, bench: usize, report: usize) -> bool
     requires { nodes ≤ 64 }
     ensures yes { result ≡ true → Fits nodes symbols bench report }

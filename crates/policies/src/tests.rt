@@ -26,7 +26,7 @@ impl Pair<'_> {
     }
 }
 
-// The rule (a|ab)(b|) on ab, read by ab and then nothing, and by a and then b.
+// The rule (a|ab)(b|) on ab, read by ab and then nothing, and by a and then b. Written out, since tests do not see another crate's.
 fn ranks<P: Policy>(rt: &impl Abort, policy: &P, want: Ordering) {
     let rows = [
         Row::from(Kind::Sequence),

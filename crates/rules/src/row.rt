@@ -13,6 +13,7 @@ pub struct Row {
     pub hi: u32,
 }
 
+// `new` and `inner` take any number, since rows may come from outside; `Rule::checked` says whether it is a kind's.
 impl Row {
     pub fn new(kind: u8, lo: u32, hi: u32) -> Row
         ensures { result ≡ row kind lo hi }

@@ -11,6 +11,8 @@ use rules::{Kind, Row};
 use std::alloc::{AllocError, Global};
 use text::read;
 
+// This and what follows is done over a sheet in `constraints`, with other promises.
+
 // Prints nothing if the text is read, or the number of its denial.
 fn serve_rule(text: &[u8], out: &mut Vec<u8>) -> Result<(), AllocError>
     ensures { PrintsBy result (λ _. RulePrints text.now) out.old.items out.new.items }

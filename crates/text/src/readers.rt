@@ -49,6 +49,7 @@ impl<'a> Reader<'a> {
     }
 
     // One row more, behind the others; past the 64th it is only counted.
+    // `HasRoom` is asked here and below, and is no invariant, since a text that is read to its end leaves no room.
     fn push(&mut self, row: Row)
         requires { HasRoom self.old }
         ensures text { self.new.text.now ≡ self.old.text.now }

@@ -9,7 +9,7 @@ ghost use Rattle.matcher.specs.Sizes.{Sized, SizedFrom, Paired, PairRoom};
 use super::{Frame, Spot};
 use rules::{Kind, Row, Rule};
 
-// The kind of a rule's node.
+// The kind of a rule's node. `positions` tells it for itself too: a public method would have to answer for a node that is not there.
 fn kind_at(rule: &Rule, node: usize) -> Kind
     requires { node < length (rule_rows rule.now) }
     ensures { kind_number result ≡ (slice_index_or (rule_rows rule.now) node (Line 0 0 0)).kind }
