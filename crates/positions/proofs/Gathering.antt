@@ -40,7 +40,7 @@ row_leaves_of (star p) = row_leaves_of p
 abbrev pub Gathered : List Row → ℕ → List (ℕ × ℕ) → Type 0
 Gathered rs n ls = ls ≡ take n (row_leaves rs) ++ replicate (32 - n) (0, 0)
 
-gathered_room : (rs : List Row) (n : ℕ) → Ruled rs → n < length (row_leaves rs) → n < 32
+pub gathered_room : (rs : List Row) (n : ℕ) → Ruled rs → n < length (row_leaves rs) → n < 32
 gathered_room rs n h lt = omega (arith, ap (λ z. length (row_leaves z)) h.of ∙ ap length (row_leaves_of h.tree) ∙ length_leaf_of h.tree, few_leaves h.tree h.few)
 
 gathered_more : (rs : List Row) (n : ℕ) (ls : List (ℕ × ℕ)) (l : ℕ × ℕ) → n < length (row_leaves rs) → n < 32 → l ≡ get_or (row_leaves rs) n l → Gathered rs n ls → Gathered rs (n + 1) (set ls n l)
@@ -53,7 +53,7 @@ gathered_more rs n ls l lt room e h =
     let next : take (n + 1) (row_leaves rs) ≡ a ++ (l ∷ []) = take_more (row_leaves rs) n l lt ∙ ap (λ z. a ++ (z ∷ [])) (sym e) in
     ap (λ z. set z n l) at ∙ set_at a (0, 0) zs l n long ∙ sym (append_assoc a (l ∷ []) zs) ∙ ap (λ z. z ++ zs) (sym next)
 
-gathered_all : (rs : List Row) (n : ℕ) (ls : List (ℕ × ℕ)) → n ≡ length (row_leaves rs) → Gathered rs n ls → (t : Tree) → Of rs t → ls ≡ leaf_of t ++ replicate (32 - leaves t) (0, 0)
+pub gathered_all : (rs : List Row) (n : ℕ) (ls : List (ℕ × ℕ)) → n ≡ length (row_leaves rs) → Gathered rs n ls → (t : Tree) → Of rs t → ls ≡ leaf_of t ++ replicate (32 - leaves t) (0, 0)
 gathered_all rs n ls e h t f =
     let all : row_leaves rs ≡ leaf_of t = ap row_leaves f ∙ row_leaves_of t in
     let m : n ≡ leaves t = e ∙ ap length all ∙ length_leaf_of t in
