@@ -1,1 +1,3 @@
 mod Names
+pub mod Picks
+pub mod Rows
