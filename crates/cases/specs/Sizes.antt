@@ -1,4 +1,4 @@
--- How many nodes a tree has, how many rows begin with it, and how many entries readings have. Assumes nothing.
+-- How many nodes a tree has, how many rows the trees take that begin some rows, and how many entries readings have. Assumes nothing.
 use Rattle.std.specs.Prelude.{◌≡◌, ℕ, zero, suc, ◌+◌, List, [], ◌∷◌, All, vec_len}
 use Rattle.std.specs.declared.vec.Vec.{Vec}
 use Rattle.rules.specs.declared.row.Row.{Row}
