@@ -83,9 +83,7 @@ pub fn serve_line(
         | (State::Awaiting, Line::Name(_))
         | (State::Awaiting, Line::Other)
         | (State::Serving, Line::Policy(_))
-        | (State::Serving, Line::Other) => {
-            question(state, sheet, out)
-        }
+        | (State::Serving, Line::Other) => { question(state, sheet, out) }
     }
 }
 
