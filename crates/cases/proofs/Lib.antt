@@ -1,1 +1,4 @@
 mod Names
+pub mod Picks
+pub mod Rows
+pub mod Stacks

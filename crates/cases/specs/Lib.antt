@@ -1,3 +1,4 @@
 pub mod Keys
 pub mod Names
+pub mod Parts
 pub mod Sizes

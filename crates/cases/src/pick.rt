@@ -1,7 +1,8 @@
-ghost use Rattle.std.specs.Prelude.{◌≡◌, ◌≢◌, ℕ, ◌-◌, length, Option, MatchOption, Contains, option_map};
+ghost use Rattle.std.specs.Prelude.{◌≡◌, ◌≢◌, ℕ, ◌-◌, true, false, length, take, Option, MatchOption, IfSome, Contains, All, option_map, slice_get};
 ghost use Rattle.std.specs.Cmp.Lexicographic.{slice_cmp};
 ghost use Rattle.rules.specs.declared.row.Row.{Row};
-ghost use Rattle.cases.specs.Keys.{keys};
+ghost use Rattle.cases.specs.Keys.{keys, key_of, node_keys, above, over};
+ghost use Rattle.cases.specs.Sizes.{EachHas};
 
 use crate::tree::{Entry, Reading};
 use rules::{Kind, Row};
@@ -43,7 +44,7 @@ pub(crate) fn compare_by<K: Fn(&Row, &Entry) -> Option<usize>>(
 
 // The reading that no other is above, among those listed. Proved is that it is one of them; that none is above it is tested. Inside
 // the crate: it calls what it is given, so it has a `requires`, and no public function has one.
-pub(crate) fn best<'a, F: Fn(&[Entry], &[Entry]) -> Ordering>(
+pub(crate) fn best_by<'a, F: Fn(&[Entry], &[Entry]) -> Ordering>(
     compare: F,
     all: &'a [Reading],
 ) -> Option<&'a Reading>
@@ -51,4 +52,63 @@ pub(crate) fn best<'a, F: Fn(&[Entry], &[Entry]) -> Ordering>(
     ensures { MatchOption result (length all.now ≡ 0) (λ r. Contains all.now r.now) }
 {
     all.iter().max_by(|a, b| compare(a, b))
+}
+
+// Which keys readings are compared by: the length of each node, or that of the stars alone. A node that takes part is above one
+// that does not.
+#[derive(Clone, Copy)]
+pub enum Keys {
+    EveryNode,
+    StarsOnly,
+}
+
+// The key of a node as a number, 0 for nothing, so that the largest length and the one below it count alike.
+fn key(keys: Keys, row: &Row, entry: &Entry) -> usize
+    ensures { result ≡ key_of keys row.now entry.now }
+{
+    let long = match keys {
+        Keys::EveryNode => every_node(row, entry),
+        Keys::StarsOnly => stars_only(row, entry),
+    };
+    long.map_or(0, |long| long.saturating_add(1))
+}
+
+// Whether the first node whose keys differ, of those that both readings have, has the greater key in the first.
+fn is_above(keys: Keys, rows: &[Row], first: &[Entry], second: &[Entry]) -> bool
+    ensures { result ≡ above (node_keys keys rows.now first.now) (node_keys keys rows.now second.now) }
+{
+    let nodes = first.len().min(second.len());
+    compare_by(
+        |row, entry| Some(key(keys, row, entry)),
+        rows,
+        &first[..nodes],
+        &second[..nodes],
+    )
+    .is_gt()
+}
+
+// Whether the first reading is above the second or, for the opposite, below it.
+fn outranks(keys: Keys, opposite: bool, rows: &[Row], first: &[Entry], second: &[Entry]) -> bool
+    ensures { result ≡ over opposite (node_keys keys rows.now first.now) (node_keys keys rows.now second.now) }
+{
+    if opposite {
+        is_above(keys, rows, second, first)
+    } else {
+        is_above(keys, rows, first, second)
+    }
+}
+
+// The place of the reading that no other is above or, for the opposite, below, among those listed; the first of equals.
+pub fn best(keys: Keys, opposite: bool, rows: &[Row], all: &[Reading]) -> usize
+    ensures none { length all.now ≡ 0 → result ≡ 0 }
+    ensures unsurpassed { MatchOption (slice_get all.now result) (length all.now ≡ 0) (λ r. All (λ other. over opposite (node_keys keys rows.now other.items) (node_keys keys rows.now r.items) ≡ false) all.now) }
+    ensures first { (n : ℕ) → EachHas n all.now → IfSome (slice_get all.now result) (λ r. All (λ other. over opposite (node_keys keys rows.now r.items) (node_keys keys rows.now other.items) ≡ true) (take result all.now)) }
+{
+    let mut best = 0;
+    for at in 1..all.len() {
+        if outranks(keys, opposite, rows, &all[at], &all[best]) {
+            best = at;
+        }
+    }
+    best
 }

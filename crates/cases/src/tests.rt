@@ -1,5 +1,6 @@
 use crate::lister::readings;
-use crate::pick::{best, compare_by, every_node, stars_only};
+use crate::membership::{leaf_has, member, tree_len};
+use crate::pick::{Keys, best, best_by, compare_by, every_node, stars_only};
 use crate::tree::{Entry, Reading, Tree};
 use matcher::{Unmatched, best_reading};
 use policies::{FirstLongest, Opposite, Policy, Posix};
@@ -74,17 +75,17 @@ impl Subject<'_> {
             rule: self.rule,
             name,
         };
-        let want = best(|a, b| compare_by(every_node, rows, a, b), &all);
+        let want = best_by(|a, b| compare_by(every_node, rows, a, b), &all);
         case.agrees(rt, &Posix, want);
-        let want = best(|a, b| compare_by(stars_only, rows, a, b), &all);
+        let want = best_by(|a, b| compare_by(stars_only, rows, a, b), &all);
         case.agrees(rt, &FirstLongest, want);
         let least = Opposite { policy: Posix };
-        let want = best(|a, b| compare_by(every_node, rows, b, a), &all);
+        let want = best_by(|a, b| compare_by(every_node, rows, b, a), &all);
         case.agrees(rt, &least, want);
         let least = Opposite {
             policy: FirstLongest,
         };
-        let want = best(|a, b| compare_by(stars_only, rows, b, a), &all);
+        let want = best_by(|a, b| compare_by(stars_only, rows, b, a), &all);
         case.agrees(rt, &least, want);
         Ok(())
     }
@@ -164,8 +165,8 @@ fn policies_differ(rt: HostRuntime) -> Result<(), Fail> {
     rule_agrees(&rt, rt.alloc(), &rule)?;
     let all = readings(rt.alloc(), &rule, b"ab")?;
     assert_eq!(rt; all.len(), 2);
-    let first = best(|a, b| compare_by(every_node, &rows, a, b), &all);
-    let last = best(|a, b| compare_by(every_node, &rows, b, a), &all);
+    let first = best_by(|a, b| compare_by(every_node, &rows, a, b), &all);
+    let last = best_by(|a, b| compare_by(every_node, &rows, b, a), &all);
     assert!(rt; first != last);
     Ok(())
 }
@@ -186,5 +187,67 @@ fn what_does_not_fit(rt: HostRuntime) -> Result<(), Fail> {
     assert_eq!(rt; answer(&rule, b"a", 7, 2), Err(Unmatched::Unfit));
     assert_eq!(rt; answer(&rule, b"a", 8, 1), Err(Unmatched::Unfit));
     assert_eq!(rt; answer(&rule, &[b'a'; 121], 64, 4), Err(Unmatched::Unfit));
+    Ok(())
+}
+
+// The rule a(b*).
+fn some_rows() -> [Row; 4] {
+    [
+        Row::from(Kind::Sequence),
+        Row::leaf(97, 97),
+        Row::from(Kind::Star),
+        Row::leaf(98, 98),
+    ]
+}
+
+#[test]
+fn trees_that_begin_rows(rt: HostRuntime) {
+    let rows = some_rows();
+    assert_eq!(rt; tree_len(&rows), 4);
+    assert_eq!(rt; tree_len(&rows[1..]), 1);
+    assert_eq!(rt; tree_len(&rows[2..]), 2);
+    assert_eq!(rt; tree_len(&rows[..3]), 3);
+    assert_eq!(rt; tree_len(&[Row::inner(9), Row::leaf(97, 97)]), 1);
+    assert_eq!(rt; tree_len(&[]), 0);
+}
+
+#[test]
+fn bytes_of_a_leaf(rt: HostRuntime) {
+    let row = Row::leaf(97, 98);
+    assert!(rt; leaf_has(row, b"a"));
+    assert!(rt; leaf_has(row, b"b"));
+    assert!(rt; !leaf_has(row, b"c"));
+    assert!(rt; !leaf_has(row, b""));
+    assert!(rt; !leaf_has(row, b"aa"));
+}
+
+#[test]
+fn words_of_rows(rt: HostRuntime) {
+    let rows = some_rows();
+    assert!(rt; member(&rows, b"a"));
+    assert!(rt; member(&rows, b"abb"));
+    assert!(rt; !member(&rows, b"ba"));
+    assert!(rt; !member(&rows, b""));
+    assert!(rt; member(&rows[2..], b""));
+    assert!(rt; !member(&[], b""));
+    let unknown = [Row::inner(9), Row::leaf(97, 97), Row::leaf(98, 98)];
+    assert!(rt; member(&unknown, b"ab"));
+    assert!(rt; !member(&unknown, b"a"));
+}
+
+#[test]
+fn place_of_the_best(rt: HostRuntime) -> Result<(), Fail> {
+    let heap = rt.alloc();
+    let star = [Row::from(Kind::Star), Row::leaf(97, 97)];
+    let leaf = [Row::leaf(97, 97)];
+    let short = [Some((0, 1)), None].to_vec(heap)?;
+    let long = [Some((0, 3)), None].to_vec(heap)?;
+    let other = [Some((1, 4)), None].to_vec(heap)?;
+    let all = [short, long, other, Vec::new(heap)];
+    assert_eq!(rt; best(Keys::EveryNode, false, &star, &all), 1);
+    assert_eq!(rt; best(Keys::EveryNode, true, &star, &all), 0);
+    assert_eq!(rt; best(Keys::StarsOnly, false, &star, &all), 1);
+    assert_eq!(rt; best(Keys::StarsOnly, false, &leaf, &all), 0);
+    assert_eq!(rt; best(Keys::EveryNode, false, &star, &[]), 0);
     Ok(())
 }

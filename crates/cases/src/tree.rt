@@ -1,5 +1,8 @@
-ghost use Rattle.std.specs.Prelude.{◌≡◌, ◌+◌, ◌++◌, ◌↔◌, true, length, IfOk, OnOk, IfSome, replicate, sum_by};
-ghost use Rattle.cases.specs.Names.{Has, HasBefore};
+ghost use Rattle.std.specs.Prelude.{◌≡◌, ◌+◌, ◌∷◌, ◌++◌, ◌↔◌, true, List, length, IfOk, OnOk, IfSome, MatchOption, replicate, sum_by};
+ghost use Rattle.rules.specs.declared.row.Row.{Row};
+ghost use Rattle.rules.specs.Trees.{Tree as RuleTree, Of, rows as tree_rows};
+ghost use Rattle.cases.specs.Names.{Has, HasBefore, ruled};
+ghost use Rattle.cases.specs.Parts.{parts as tree_parts, stacked};
 ghost use Rattle.cases.specs.Sizes.{size};
 
 use rules::{Kind, Row};
@@ -26,7 +29,8 @@ fn two_parts(
     heap: Global,
     parts: &mut Vec<Tree>,
 ) -> Result<Option<(Box<Tree>, Box<Tree>)>, AllocError>
-    ensures { IfOk result (λ o. IfSome o (λ p. size p.0.value + size p.1.value + sum_by size parts.new.items ≡ sum_by size parts.old.items)) }
+    ensures size { IfOk result (λ o. IfSome o (λ p. size p.0.value + size p.1.value + sum_by size parts.new.items ≡ sum_by size parts.old.items)) }
+    ensures parts { (p q : RuleTree) (rest : List RuleTree) → stacked parts.old.items ≡ p ∷ q ∷ rest → IfOk result (λ o. MatchOption o ⊥ (λ b. (ruled b.0.value ≡ p) × (ruled b.1.value ≡ q) × (stacked parts.new.items ≡ rest))) }
 {
     let (Some(first), Some(second)) = (parts.pop(), parts.pop()) else {
         return Ok(None);
@@ -36,7 +40,8 @@ fn two_parts(
 
 // The tree of a row, over the trees of the rows after it, of which it takes its parts.
 fn grown(heap: Global, row: &Row, parts: &mut Vec<Tree>) -> Result<Option<Tree>, AllocError>
-    ensures { IfOk result (λ o. IfSome o (λ t. size t + sum_by size parts.new.items ≡ 1 + sum_by size parts.old.items)) }
+    ensures size { IfOk result (λ o. IfSome o (λ t. size t + sum_by size parts.new.items ≡ 1 + sum_by size parts.old.items)) }
+    ensures tree { (t : RuleTree) (below : List Row) (rest : List RuleTree) → tree_rows t ≡ row.now ∷ below → stacked parts.old.items ≡ tree_parts t ++ rest → IfOk result (λ o. MatchOption o ⊥ (λ s. (ruled s ≡ t) × (stacked parts.new.items ≡ rest))) }
 {
     match Kind::try_from(row.kind) {
         Ok(Kind::Empty) => Ok(Some(Tree::Empty)),
@@ -57,7 +62,8 @@ fn grown(heap: Global, row: &Row, parts: &mut Vec<Tree>) -> Result<Option<Tree>,
 impl Tree {
     // The tree of these rows, if they are a tree's.
     pub fn of(heap: Global, rows: &[Row]) -> Result<Option<Tree>, AllocError>
-        ensures { IfOk result (λ o. IfSome o (λ t. size t ≡ length rows.now)) }
+        ensures size { IfOk result (λ o. IfSome o (λ t. size t ≡ length rows.now)) }
+        ensures tree { (t : RuleTree) → Of rows.now t → IfOk result (λ o. MatchOption o ⊥ (λ s. ruled s ≡ t)) }
     {
         let mut parts = Vec::new(heap);
         for row in rows.iter().rev() {

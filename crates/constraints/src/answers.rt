@@ -1,8 +1,8 @@
-ghost use Rattle.std.specs.Prelude.{◌≡◌, ℕ, [], length, take, IfOk, MatchResult};
+ghost use Rattle.std.specs.Prelude.{◌≡◌, ℕ, [], ◌++◌, length, take, IfOk, MatchResult};
 ghost use Rattle.sheet.specs.Sheets.{locked};
 ghost use Rattle.session.specs.Kinds.{rule_line};
 ghost use Rattle.session.specs.Lines.{lines};
-ghost use Rattle.session.specs.Served.{Appends, PrintsBy};
+ghost use Rattle.session.specs.Served.{Appends, PrintsBy, asked};
 ghost use Rattle.constraints.specs.Served.{Answers, FileSession};
 ghost use Rattle.session.specs.declared.line.State.TheVariants.{Serving};
 
@@ -42,6 +42,18 @@ fn serve_rule(sheet: FileSheet, text: &[u8], out: &mut Vec<u8>) -> Result<FileSh
     Ok(sheet)
 }
 
+// Prints `?`; state and sheet stay. They are handed through, since a sheet that an arm of many gives back is copied once more a line.
+fn question(
+    state: State,
+    sheet: FileSheet,
+    out: &mut Vec<u8>,
+) -> Result<(State, FileSheet), AllocError>
+    ensures { MatchResult result (λ s. (s.0 ≡ state) × (s.1 ≡ sheet) × (out.new.items ≡ out.old.items ++ asked)) (λ _. out.new.items ≡ out.old.items) }
+{
+    print_question(out)?;
+    Ok((state, sheet))
+}
+
 // Serves one line: the state and the sheet after it, and what it prints behind what was printed before.
 // `session` has its own `serve`, `serve_line` and `serve_rule`, with no sheet, and so other promises: netread prints what it printed.
 // The sheet is moved, and bench and output are borrowed: a struct of the three would be taken apart in each arm.
@@ -71,10 +83,7 @@ pub fn serve_line(
         | (State::Awaiting, Line::Name(_))
         | (State::Awaiting, Line::Other)
         | (State::Serving, Line::Policy(_))
-        | (State::Serving, Line::Other) => {
-            print_question(out)?;
-            Ok((state, sheet))
-        }
+        | (State::Serving, Line::Other) => { question(state, sheet, out) }
     }
 }
 

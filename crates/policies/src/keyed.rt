@@ -1,8 +1,9 @@
-ghost use Rattle.std.specs.Prelude.{◌≡◌};
-ghost use Rattle.policies.specs.Keys.{Key, Faithful, NodesCompare, above_by, extent};
-ghost use Rattle.policies.specs.KeyOrder;
+ghost use Rattle.std.specs.Prelude.{◌≡◌, length};
+ghost use Rattle.std.specs.Option.{unwrap_or};
+ghost use Rattle.std.specs.declared.cmp.Ordering.TheVariants.{Equal};
+ghost use Rattle.policies.specs.Keys.{Key, Faithful, NodesCompare, KeysCompare, above_by, extent, keys};
+ghost use Rattle.policies.specs.Orders.{Ranks};
 
-use crate::policy::Policy;
 use rules::Row;
 use std::cmp::Ordering;
 
@@ -26,27 +27,35 @@ fn length_of(entry: Option<(usize, usize)>) -> Option<usize>
     entry.map(|(start, end)| end.saturating_sub(start))
 }
 
-// Every policy that goes by keys.
-impl<K: Keyed> Policy for K {
-    ghost above = { λ self. above_by (K.key self) };
+// How two readings compare at the first of these rows where their keys differ.
+fn first_unequal<K: Keyed>(
+    keyed: &K,
+    rows: &[Row],
+    first: &[Option<(usize, usize)>],
+    second: &[Option<(usize, usize)>],
+) -> Option<Ordering>
+    ensures { length first.now ≡ length second.now → KeysCompare (keys (K.key keyed.now) rows.now first.now) (keys (K.key keyed.now) rows.now second.now) (unwrap_or result Equal) }
+{
+    rows.iter()
+        .zip(first)
+        .zip(second)
+        .map(|((row, a), b)| keyed.compare(row.kind, length_of(*a), length_of(*b)))
+        .find(|order| order.is_ne())
+}
 
-    ghost decided = { λ self. KeyOrder.decided (K.faithful self) };
-
-    ghost replaced = { λ self. KeyOrder.replaced (K.key self) };
-
-    fn rank(
-        &self,
-        rows: &[Row],
-        node: usize,
-        first: &[Option<(usize, usize)>],
-        second: &[Option<(usize, usize)>],
-    ) -> Ordering {
-        rows.iter()
-            .skip(node)
-            .zip(first)
-            .zip(second)
-            .map(|((row, a), b)| self.compare(row.kind, length_of(*a), length_of(*b)))
-            .find(|order| order.is_ne())
-            .unwrap_or(Ordering::Equal)
+// The rank of every policy that goes by keys.
+pub fn rank_by_keys<K: Keyed>(
+    keyed: &K,
+    rows: &[Row],
+    node: usize,
+    first: &[Option<(usize, usize)>],
+    second: &[Option<(usize, usize)>],
+) -> Ordering
+    ensures { Ranks (above_by (K.key keyed.now)) rows.now node first.now second.now result }
+{
+    let from = node.min(rows.len());
+    match first_unequal(keyed, &rows[from..], first, second) {
+        Some(order) => order,
+        None => Ordering::Equal,
     }
 }

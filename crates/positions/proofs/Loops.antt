@@ -1,5 +1,5 @@
 -- Going through the leaves of a set: what is found, and what is found at the leaves that are left.
-use Rattle.std.proofs.Common.{◌≡◌, ℕ, ◌+◌, ◌-◌, ◌^◌, ◌<◌, ◌≤◌, Bool, true, cond, ◌&&◌, not, List, length, get_or, take, drop, replicate, sym, refl, ap, ◌∙◌, subst, ⊎_elim, arith, length-take}
+use Rattle.std.proofs.Common.{◌≡◌, ℕ, ◌+◌, ◌-◌, ◌^◌, ◌<◌, ◌≤◌, suc, Bool, true, false, cond, ◌||◌, not, List, [], ◌∷◌, length, get_or, take, drop, replicate, sym, refl, ap, ◌∙◌, subst, ap₂, ⊎_elim, arith, length-take}
 use native.Mathlib.Decide.{dec_lt, ℕ_discrete}
 use lib.Bits.{bit_and, bit_or, and_zero_l, or_zero_r}
 use Rattle.std.proofs.lemmas.List.{get_or-take, get_or-drop, get_or_past, get_or-replicate, length-take-le, length-replicate}
@@ -8,7 +8,7 @@ use Rattle.rules.specs.Languages.{Sight}
 use Rattle.positions.specs.Positions.{member}
 use Rattle.positions.specs.LeafSets.{Lowest}
 use Rattle.positions.specs.Steps.{holders, followers}
-use Rattle.positions.proofs.Masks.{member_and, member_above, same_leaves, same_test, or_join, or_and, one_and, lowest_or}
+use Rattle.positions.proofs.Masks.{member_none, member_one, member_or, same_leaves, same_test, or_join, or_and, one_and, lowest_or}
 use Rattle.positions.proofs.Meanings.{never, or_either, in_left, in_right}
 use Rattle.positions.proofs.Steps.{Holds, holders_sound, holders_full, followers_sound, followers_full}
 
@@ -19,15 +19,31 @@ member_holders ls s p lt =
     (λ h. let a = holders_sound ls 0 s p h in let e : a.0 ≡ p = omega (arith, a.1) in subst (λ k. Holds ls k s) e a.2)
     (λ h. holders_full ls 0 s p p (omega arith) lt h)
 
+-- behind the list there is none
+no_holder : (ls : List (ℕ × ℕ)) (n : ℕ) (s : Sight) (p : ℕ) → n + length ls ≤ p → member (holders ls n s) p ≡ false
+no_holder [] n s p le = member_none p
+no_holder (l ∷ ls) n s p le = member_or (cond (s l.0 l.1) (2 ^ n) 0) (holders ls (suc n) s) p ∙ ap₂ (λ (x y : Bool). x || y) (own (s l.0 l.1)) (no_holder ls (suc n) s p (omega arith))
+  where
+    own : (b : Bool) → member (cond b (2 ^ n) 0) p ≡ false
+    own true = member_one n p ∙ ne_eqb p n (omega arith)
+    own false = member_none p
+
+-- among the first n leaves, leaf p holds if it does in the whole list, and none from n on does
+pub held_front : (ls : List (ℕ × ℕ)) (s : Sight) (n p : ℕ) (b : Bool) → n ≤ length ls → p < n → b ≡ s (get_or ls p (0, 0)).0 (get_or ls p (0, 0)).1 → b ≡ member (holders (take n ls) 0 s) p
+held_front ls s n p b le lt e = e ∙ sym (member_holders (take n ls) s p (omega (arith, length-take-le n ls le)) ∙ ap (λ (l : ℕ × ℕ). s l.0 l.1) (get_or-take n ls p (0, 0) lt))
+
+pub held_past : (ls : List (ℕ × ℕ)) (s : Sight) (n p : ℕ) → n ≤ length ls → n ≤ p → false ≡ member (holders (take n ls) 0 s) p
+held_past ls s n p le ge = sym (no_holder (take n ls) 0 s p (omega (arith, length-take-le n ls le)))
+
 -- the leaves of the set that hold: those found, and those among the leaves that are left
 abbrev pub HoldersLeft : List (ℕ × ℕ) → Sight → ℕ → ℕ → ℕ → Type 0
 HoldersLeft ls s set held left = bit_or held (bit_and left (holders ls 0 s)) ≡ bit_and set (holders ls 0 s)
 
-pub holders_turn : (ls : List (ℕ × ℕ)) (s : Sight) (set held r left p rest : ℕ) (b : Bool) → Lowest left p rest → p < length ls
-    → b ≡ s (get_or ls p (0, 0)).0 (get_or ls p (0, 0)).1 → r ≡ bit_or held (cond b (2 ^ p) 0) → HoldersLeft ls s set held left → HoldersLeft ls s set r rest
-holders_turn ls s set held r left p rest b low lt e f h =
+pub holders_turn : (ls : List (ℕ × ℕ)) (s : Sight) (set held r left p rest : ℕ) (b : Bool) → Lowest left p rest
+    → b ≡ member (holders ls 0 s) p → r ≡ bit_or held (cond b (2 ^ p) 0) → HoldersLeft ls s set held left → HoldersLeft ls s set r rest
+holders_turn ls s set held r left p rest b low e f h =
     let H = holders ls 0 s in
-    let own : bit_and (2 ^ p) H ≡ cond b (2 ^ p) 0 = one_and p H ∙ ap (λ z. cond z (2 ^ p) 0) (member_holders ls s p lt ∙ sym e) in
+    let own : bit_and (2 ^ p) H ≡ cond b (2 ^ p) 0 = one_and p H ∙ ap (λ z. cond z (2 ^ p) 0) (sym e) in
     let parts : bit_and left H ≡ bit_or (cond b (2 ^ p) 0) (bit_and rest H) = ap (λ z. bit_and z H) (lowest_or left p rest low) ∙ or_and (2 ^ p) rest H ∙ ap (λ z. bit_or z (bit_and rest H)) own in
     ap (λ z. bit_or z (bit_and rest H)) f ∙ or_join held (cond b (2 ^ p) 0) (bit_and rest H) ∙ ap (bit_or held) (sym parts) ∙ h
 
@@ -60,21 +76,11 @@ pub followers_turn : (fs : List ℕ) (set next left p rest : ℕ) → Lowest lef
 followers_turn fs set next left p rest low h = or_join next (get_or fs p 0) (followers fs 0 rest) ∙ ap (bit_or next) (sym (followers_lowest fs left p rest low)) ∙ h
 
 -- from no leaf none follows
-pub none_follow : (fs : List ℕ) → followers fs 0 0 ≡ 0
-none_follow fs = same_leaves _ _ (λ y. same_test _ _ (λ h. never (0 + (followers_sound fs 0 0 y h).0) (followers_sound fs 0 0 y h).1) (λ h. never y h))
+pub none_follow : (fs : List ℕ) (n : ℕ) → followers fs n 0 ≡ 0
+none_follow fs n = same_leaves _ _ (λ y. same_test _ _ (λ h. never (n + (followers_sound fs n 0 y h).0) (followers_sound fs n 0 y h).1) (λ h. never y h))
 
 pub followers_end : (fs : List ℕ) (set next left : ℕ) → left ≡ 0 → FollowersLeft fs set next left → next ≡ followers fs 0 set
-followers_end fs set next left e h = sym (ap (λ z. bit_or next (followers fs 0 z)) e ∙ ap (bit_or next) (none_follow fs) ∙ or_zero_r next) ∙ h
-
--- a set below 2 ^ n has the same holders among the first n leaves
-pub holders_front : (ls : List (ℕ × ℕ)) (s : Sight) (n set : ℕ) → n ≤ length ls → set < 2 ^ n → bit_and set (holders ls 0 s) ≡ bit_and set (holders (take n ls) 0 s)
-holders_front ls s n set le lt = same_leaves _ _ (λ q. member_and set (holders ls 0 s) q ∙ at q (dec_lt q n) ∙ sym (member_and set (holders (take n ls) 0 s) q))
-  where
-    at : (q : ℕ) → Dec (q < n) → (member set q && member (holders ls 0 s) q) ≡ (member set q && member (holders (take n ls) 0 s) q)
-    at q (yes l) =
-        ap (λ b. member set q && b)
-        (member_holders ls s q (omega arith) ∙ ap (λ (l : ℕ × ℕ). s l.0 l.1) (sym (get_or-take n ls q (0, 0) l)) ∙ sym (member_holders (take n ls) s q (omega (arith, length-take-le n ls le))))
-    at q (no ge) = let none = member_above set n q lt (omega arith) in ap (λ b. b && member (holders ls 0 s) q) none ∙ sym (ap (λ b. b && member (holders (take n ls) 0 s) q) none)
+followers_end fs set next left e h = sym (ap (λ z. bit_or next (followers fs 0 z)) e ∙ ap (bit_or next) (none_follow fs 0) ∙ or_zero_r next) ∙ h
 
 -- where zeros lie behind the first n follow sets, they add nothing
 pub followers_front : (fs : List ℕ) (n m set : ℕ) → drop n fs ≡ replicate m 0 → followers fs 0 set ≡ followers (take n fs) 0 set

@@ -130,10 +130,17 @@ lowest_or set p rest h = same_leaves _ _ (λ q. at q (ℕ_discrete q p) ∙ sym 
     at q (yes e) = ap (member set) e ∙ h.inside ∙ sym (ap (λ b. b || (member set q && not (eqb q p))) (eq-eqb q p e))
     at q (no ne) = sym (ap₂ (λ (x y : Bool). x || y) (ne_eqb q p ne) (but_other (member set q) p q ne))
 
+-- the lowest leaf is none of the others, and they are the set's
+pub lowest_gone : (set p rest : ℕ) → Lowest set p rest → member rest p ≡ false
+lowest_gone set p rest h = h.others p ∙ but_same (member set p) p p refl
+
+pub lowest_other : (set p rest q : ℕ) → Lowest set p rest → (q ≡ p → ⊥) → member set q ≡ member rest q
+lowest_other set p rest q h ne = sym (h.others q ∙ but_other (member set q) p q ne)
+
 -- and the others are fewer
 pub lowest_less : (set p rest : ℕ) → Lowest set p rest → rest < set
 lowest_less set p rest h =
-    let apart : bit_and (2 ^ p) rest ≡ 0 = one_and p rest ∙ ap (λ b. cond b (2 ^ p) 0) (h.others p ∙ but_same (member set p) p p refl) in
+    let apart : bit_and (2 ^ p) rest ≡ 0 = one_and p rest ∙ ap (λ b. cond b (2 ^ p) 0) (lowest_gone set p rest h) in
     omega (arith, lowest_or set p rest h ∙ or_disjoint (2 ^ p) rest apart, pow_pos p)
 
 -- the lowest leaf is the lowest bit, and clearing that leaves the others

@@ -287,14 +287,14 @@ follow_means t n k y = (
 )
 
 -- the sets hold no leaf but the tree's
-pub first_below : (t : Tree) (n : ℕ) → first_set t n < 2 ^ (n + leaves t)
-first_below t n = below_members _ _ (λ x h. (begins_within t n x (first_begins t n x h)).1)
+pub first_below : (t : Tree) (n m : ℕ) → n + leaves t ≤ m → first_set t n < 2 ^ m
+first_below t n m le = below_members _ _ (λ x h. let w = begins_within t n x (first_begins t n x h) in omega arith)
 
-last_below : (t : Tree) (n : ℕ) → last_set t n < 2 ^ (n + leaves t)
-last_below t n = below_members _ _ (λ x h. (ends_within t n x (last_ends t n x h)).1)
+pub last_below : (t : Tree) (n m : ℕ) → n + leaves t ≤ m → last_set t n < 2 ^ m
+last_below t n m le = below_members _ _ (λ x h. let w = ends_within t n x (last_ends t n x h) in omega arith)
 
-pub follow_below : (t : Tree) (n k : ℕ) → after t n k < 2 ^ (n + leaves t)
-follow_below t n k = below_members _ _ (λ y h. (follows_within t n (n + k) y (after_follows t n k (n + k) y refl h)).1.1)
+pub follow_below : (t : Tree) (n k m : ℕ) → n + leaves t ≤ m → after t n k < 2 ^ m
+follow_below t n k m le = below_members _ _ (λ y h. let w = (follows_within t n (n + k) y (after_follows t n k (n + k) y refl h)).1 in omega arith)
 
 pub sets_mean : (t : Tree) → SetsMean t
 sets_mean t = record {
@@ -303,7 +303,7 @@ sets_mean t = record {
   last = last_means t 0;
   follow = λ x y. rw (zero-add x) at (follow_means t 0 x y);
   one_each = length_follow_sets t 0;
-  first_fits = rw (zero-add (leaves t)) at (first_below t 0);
-  last_fits = rw (zero-add (leaves t)) at (last_below t 0);
-  follow_fits = λ x. rw (zero-add (leaves t)) at (follow_below t 0 x);
+  first_fits = first_below t 0 (leaves t) (omega arith);
+  last_fits = last_below t 0 (leaves t) (omega arith);
+  follow_fits = λ x. follow_below t 0 x (leaves t) (omega arith);
 }

@@ -41,10 +41,35 @@ pair_writes p q x before mid after a c la one two e =
     let l : length (a ++ fp) ≡ x + leaves p = length-append a fp ∙ ap₂ ◌+◌ la (length_follow_sets p x) in
     two (a ++ fp) c l (m ∙ sym (append_assoc a fp (zq ++ c))) ∙ append_assoc a fp (fq ++ c)
 
+-- What is left where some kinds are not there: a part, two parts, and those of a sequence.
+pub some_part : (k : Kind) → (k ≡ Empty → ⊥) → (k ≡ Leaf → ⊥) → 1 < kind_number k
+some_part Empty a b = absurd (a refl)
+some_part Leaf a b = absurd (b refl)
+some_part Choice a b = omega arith
+some_part Sequence a b = omega arith
+some_part Star a b = omega arith
+
+pub two_parts : (k : Kind) → (k ≡ Star → ⊥) → kind_number k < 4
+two_parts Empty a = omega arith
+two_parts Leaf a = omega arith
+two_parts Choice a = omega arith
+two_parts Sequence a = omega arith
+two_parts Star a = absurd (a refl)
+
+pub only_sequence : (k : Kind) → 1 < kind_number k → kind_number k < 4 → (k ≡ Choice → ⊥) → k ≡ Sequence
+only_sequence Empty lo hi a = absurd (omega arith)
+only_sequence Leaf lo hi a = absurd (omega arith)
+only_sequence Choice lo hi a = absurd (a refl)
+only_sequence Sequence lo hi a = refl
+only_sequence Star lo hi a = absurd (omega arith)
+
 module _ (rs : List Row) (n x : ℕ) (d : Row) where
   -- the kind of the node's row
   abbrev Is : Kind → Type 0
   Is k = kind_number k ≡ (get_or rs n d).kind
+
+  pub is_kind : (j k : Kind) → j ≡ k → Is j → Is k
+  is_kind j k e h = ap kind_number (sym e) ∙ h
 
   module _ (before : List ℕ) where
     pub visited_empty : (r : Part) → Is Empty → r ≡ empty_part (n + 1) x → Visited rs n x before r before

@@ -66,3 +66,21 @@ fn star(rt: HostRuntime) -> Result<(), Fail> {
     assert!(rt; !sets.accepts(&Bytes, b"aab"));
     Ok(())
 }
+
+// A leaf at or past the count is none of the rule's, whatever the sets say.
+#[test]
+fn leaf_past_the_count(rt: HostRuntime) -> Result<(), Fail> {
+    let mut leaves = [(0, 0); 32];
+    leaves[0] = (97, 97);
+    let sets = Positions {
+        nullable: false,
+        first: 1,
+        last: 1,
+        count: 0,
+        follow: [1; 32],
+        leaves,
+    };
+    assert!(rt; !sets.accepts(&Bytes, b"a"));
+    assert!(rt; !sets.accepts(&Bytes, b"aa"));
+    Ok(())
+}

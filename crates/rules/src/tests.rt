@@ -58,3 +58,27 @@ fn kinds(rt: HostRuntime) {
     assert_eq!(rt; Kind::try_from(4).ok(), Some(Kind::Star));
     assert_eq!(rt; Kind::try_from(5).err(), Some(Denial::UnknownKind));
 }
+
+// The numbers that a user reads, one by one.
+#[test]
+fn denials_have_their_numbers(rt: HostRuntime) {
+    let numbers = [
+        (Denial::SheetFull, 1),
+        (Denial::RowCount, 2),
+        (Denial::UnknownKind, 3),
+        (Denial::NotAdmitted, 4),
+        (Denial::RowTooMany, 5),
+        (Denial::RowsMissing, 6),
+        (Denial::NoSuchPlace, 7),
+        (Denial::NameTooLong, 8),
+        (Denial::BenchTooShort, 9),
+        (Denial::AnswerTooLong, 10),
+        (Denial::NotRead, 11),
+        (Denial::TextTooLong, 12),
+        (Denial::NotDerived, 13),
+        (Denial::TextRows, 14),
+    ];
+    for (denial, number) in numbers {
+        assert_eq!(rt; denial.number(), number);
+    }
+}

@@ -1,7 +1,9 @@
 -- The first line of an input, and the lines behind it.
-use Rattle.std.proofs.Common.{◌≡◌, ℕ, zero, suc, ◌+◌, ◌-◌, ◌<◌, Bool, true, false, cond, eqb, ltb, List, [], ◌∷◌, Some, None, length, get_or, take, drop, refl, ap, ◌∙◌, arith, length-drop, take_all, eq-eqb, ne_eqb, eqb-true, ltb-true, ltb-false}
+use Rattle.std.proofs.Common.{◌≡◌, ℕ, zero, suc, ◌+◌, ◌-◌, ◌<◌, ◌≤◌, Bool, true, false, cond, eqb, ltb, List, [], ◌∷◌, Option, Some, None, length, get_or, take, drop, refl, ap, ◌∙◌, arith, length-drop, take_all, eq-eqb, ne_eqb, eqb-true, ltb-true, ltb-false}
 use Rattle.std.specs.Prelude.{◌==◌, position}
 use Rattle.std.specs.List.{position_or_len}
+use Rattle.std.specs.Option.{unwrap_or}
+use Rattle.std.proofs.lemmas.List.{drop-drop}
 use Rattle.std.proofs.lemmas.Bool.{eqb-false}
 use Rattle.std.proofs.lemmas.List.Sums.{fails_before_first, passes_at_first}
 use Rattle.session.specs.Lines.{onto, lines}
@@ -56,3 +58,26 @@ line_last l some e =
     let q : ℕ = position_or_len (λ b. b == 10) l in
     let f = ltb-false q (length l) (missed_by (ltb q (length l)) q e) in
     last l some (λ k j x. eqb-false _ _ (fails_before_first (λ b. b == 10) l k 0 (omega (arith, f))) x)
+
+-- the same, where the text is parted at the place, or at its end
+pub parted : (l front back : List ℕ) (n : ℕ) (o : Option ℕ) → o ≡ position (λ b. b == 10) l → n ≡ unwrap_or o (length l) → front ≡ take n l → back ≡ drop n l → 1 ≤ length back
+    → (lines l ≡ front ∷ lines (take (length back - 1) (drop 1 back))) × (length (take (length back - 1) (drop 1 back)) < length l)
+parted l front back n None e u f g some = absurd (omega (arith, u, ap length g, length-drop n l))
+parted l front back n (Some k) e u f g some =
+    let h = line_ended l k e in
+    let many : length back - 1 ≡ length l - (k + 1) = omega (arith, u, ap length g, length-drop n l) in
+    let behind : drop 1 back ≡ drop (k + 1) l = ap (drop 1) g ∙ drop-drop 1 n l ∙ ap (λ m. drop (m + 1) l) u in
+    let rest : take (length back - 1) (drop 1 back) ≡ take (length l - (k + 1)) (drop (k + 1) l) = rw (many, behind) refl in
+    let front_is : front ≡ take k l = f ∙ ap (λ m. take m l) u in
+    rw (rest, front_is) h
+
+pub unparted : (l front back : List ℕ) (n : ℕ) (o : Option ℕ) → o ≡ position (λ b. b == 10) l → n ≡ unwrap_or o (length l) → front ≡ take n l → back ≡ drop n l → 0 < length l → length back < 1
+    → (lines l ≡ front ∷ lines back) × (length back < length l)
+unparted l front [] n None e u f g some none =
+    let all : front ≡ l = f ∙ take_all n l (omega (arith, u)) in
+    rw all (line_last l some e, some)
+unparted l front [] n (Some k) e u f g some none =
+    let q : ℕ = position_or_len (λ b. b == 10) l in
+    let h = found_by (ltb q (length l)) q k e in
+    absurd (omega (arith, u, ap length g, length-drop n l, ltb-true q (length l) h.0, h.1))
+unparted l front (b ∷ back) n o e u f g some none = absurd (omega arith)

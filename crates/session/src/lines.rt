@@ -48,8 +48,10 @@ pub fn next_line(input: &[u8]) -> Option<(&[u8], &[u8])>
     if input.is_empty() {
         return None;
     }
-    match line_end(input) {
-        Some(end) => Some((&input[..end], &input[end + 1..])),
-        None => Some((input, &[])),
+    let (line, rest) = input.split_at(line_end(input).unwrap_or(input.len()));
+    // What follows is reckoned from where the line ends, and not from the byte there, which would be waited for at each line.
+    match rest {
+        [_, after @ ..] => Some((line, after)),
+        [] => Some((line, rest)),
     }
 }

@@ -19,8 +19,12 @@ impl Frame<'_> {
         let Spot { node, start, end } = first;
         match self.kind(node) {
             Kind::Empty => start..start + 1,
-            Kind::Leaf if start == end => end + 1..end + 1,
-            Kind::Leaf => start + 1..start + 2,
+            // An empty second part is looked at first: it leaves one split, whether or not a symbol is there.
+            Kind::Leaf => match self.kind(second) {
+                Kind::Empty => end..end + 1,
+                _ if start == end => end + 1..end + 1,
+                _ => start + 1..start + 2,
+            },
             Kind::Choice | Kind::Sequence | Kind::Star => match self.kind(second) {
                 Kind::Empty => end..end + 1,
                 Kind::Leaf if start == end => end + 1..end + 1,

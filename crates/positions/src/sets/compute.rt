@@ -24,8 +24,12 @@ fn leaves_of(rows: &[Row]) -> [(u32, u32); 32]
     ensures { (t : Tree) → Of rows.now t → result ≡ leaf_of t ++ replicate (32 - leaf-count t) (0, 0) }
 {
     let mut leaves = [(0, 0); 32];
-    for (p, leaf) in rows.iter().filter_map(leaf_of_row).enumerate() {
-        leaves[p] = leaf;
+    let mut count = 0;
+    for row in rows {
+        if let Some(leaf) = leaf_of_row(row) {
+            leaves[count] = leaf;
+            count += 1;
+        }
     }
     leaves
 }

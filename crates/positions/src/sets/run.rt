@@ -1,7 +1,7 @@
 ghost use Rattle.std.specs.Prelude.{◌≡◌, true, ◌↔◌, bit_and};
 ghost use Rattle.rules.specs.Languages.{In, seen};
 ghost use Rattle.rules.specs.Trees.{Tree};
-ghost use Rattle.positions.specs.SetsOf.{SetsOf};
+ghost use Rattle.positions.specs.SetsOf.{SetsOf, kept_leaves};
 ghost use Rattle.positions.specs.Steps.{followers, holders, step};
 
 use super::Positions;
@@ -9,21 +9,21 @@ use crate::leaf_set::Leaves;
 use rules::Alphabet;
 
 impl Positions {
-    // The leaves of the set that hold the symbol; a leaf outside the set is not asked.
+    // The leaves of the set that hold the symbol; a leaf outside the set, or at or past the count, is not asked.
     fn holders<A: Alphabet>(&self, alphabet: &A, set: u32, symbol: &A::Symbol) -> u32
-        ensures { result ≡ bit_and set (holders self.now.leaves 0 (λ lo hi. A.Alphabet.held alphabet.now lo hi symbol.now)) }
+        ensures { result ≡ bit_and set (holders (kept_leaves self.now) 0 (λ lo hi. A.Alphabet.held alphabet.now lo hi symbol.now)) }
     {
         let mut held = 0;
         for p in Leaves(set) {
             let (lo, hi) = self.leaves[p];
-            if alphabet.holds(lo, hi, symbol) {
+            if p < self.count && alphabet.holds(lo, hi, symbol) {
                 held |= 1 << p;
             }
         }
         held
     }
 
-    // The leaves that follow one of the set.
+    // The leaves that follow one of the set. The leaves at or past the count are left to `holders`, which drops them.
     fn followers(&self, set: u32) -> u32
         ensures { result ≡ followers self.now.follow 0 set }
     {

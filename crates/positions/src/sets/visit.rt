@@ -2,7 +2,7 @@ ghost use Rattle.std.specs.Prelude.{◌≡◌, ◌<◌};
 ghost use Rattle.positions.specs.Positions.{followed};
 ghost use Rattle.positions.specs.Visits.{Placed, Visited, both, either, empty_part, leaf_part};
 
-use crate::leaf_set::member;
+use crate::leaf_set::Leaves;
 use rules::{Kind, Row};
 
 // What the visit of a node tells of the part of the rule that stands there, and the numbers of the next node and leaf.
@@ -47,9 +47,9 @@ fn leaf_part(next_node: usize, leaf: usize) -> Part
 fn link(follow: &mut [u32], set: u32, more: u32)
     ensures { follow.new ≡ followed set more 0 follow.old }
 {
-    for (p, next) in follow.iter_mut().enumerate() {
-        if member(set, p) {
-            *next |= more;
+    for p in Leaves(set) {
+        if p < follow.len() {
+            follow[p] |= more;
         }
     }
 }
@@ -83,33 +83,33 @@ fn both(one: Part, two: Part) -> Part
 }
 
 // Visits the part of the rule at a node, whose first leaf has the given number, and writes its leaves' follow sets.
+// One visit of a first part and one of a second serve all kinds, since each takes room in every visit's frame.
 pub(crate) fn visit(rows: &[Row], node: usize, leaf: usize, follow: &mut [u32]) -> Part
     requires { Placed rows.now node leaf }
     ensures { Visited rows.now node leaf follow.old result follow.new }
 {
+    let Ok(kind) = Kind::try_from(rows[node].kind) else {
+        unreachable()
+    };
     let next = node + 1;
-    match Kind::try_from(rows[node].kind) {
-        Ok(Kind::Empty) => empty_part(next, leaf),
-        Ok(Kind::Leaf) => leaf_part(next, leaf),
-        Ok(Kind::Choice) => {
-            let one = visit(rows, next, leaf, follow);
-            let two = visit(rows, one.next_node, one.next_leaf, follow);
-            either(one, two)
-        }
-        Ok(Kind::Sequence) => {
-            let one = visit(rows, next, leaf, follow);
-            let two = visit(rows, one.next_node, one.next_leaf, follow);
+    let one = match kind {
+        Kind::Empty => return empty_part(next, leaf),
+        Kind::Leaf => return leaf_part(next, leaf),
+        _ => visit(rows, next, leaf, follow),
+    };
+    if let Kind::Star = kind {
+        link(follow, one.last, one.first);
+        return Part {
+            nullable: true,
+            ..one
+        };
+    }
+    let two = visit(rows, one.next_node, one.next_leaf, follow);
+    match kind {
+        Kind::Choice => either(one, two),
+        _ => {
             link(follow, one.last, two.first);
             both(one, two)
         }
-        Ok(Kind::Star) => {
-            let one = visit(rows, next, leaf, follow);
-            link(follow, one.last, one.first);
-            Part {
-                nullable: true,
-                ..one
-            }
-        }
-        Err(_) => unreachable(),
     }
 }

@@ -1,8 +1,10 @@
-ghost use Rattle.std.specs.Prelude.{◌≡◌, ◌<◌, true, false, Some, None, vec_len, MatchResult};
+ghost use Rattle.std.specs.Prelude.{◌≡◌, Some, None, MatchResult};
+ghost use Rattle.std.specs.Option.{ok_or};
 ghost use Rattle.rules.specs.Denials.{number};
+ghost use Rattle.rules.specs.declared.denial.Denial.TheVariants.{NotRead};
 ghost use Rattle.rules.specs.Languages.{seen};
 ghost use Rattle.sheet.specs.Changes.{place_met};
-ghost use Rattle.sheet.specs.Questions.{at, GovernAnswer, Read, SetsAnswer, SpansAnswer, spans_met};
+ghost use Rattle.sheet.specs.Questions.{at, Governed, GovernAnswer, SetsAnswer, SpansAnswer, spans_met};
 ghost use Rattle.sheet.specs.Sheets.{held_rows, locked};
 
 use super::LockedSheet;
@@ -87,15 +89,24 @@ impl<A: Alphabet, P: Policy> LockedSheet<A, P> {
 }
 
 impl<A: Alphabet, P> LockedSheet<A, P> {
+    // The lowest place whose rule reads the name, of whatever length, if there is one.
+    fn first_reading(&self, name: &[A::Symbol]) -> Option<usize>
+        ensures { Governed None (locked self.now) (seen (A.Alphabet.held self.now.kept.alphabet) name.now) (ok_or result NotRead) }
+    {
+        self.kept
+            .rules
+            .iter()
+            .position(|held| held.reads(&self.kept.alphabet, name))
+    }
+
     // The lowest place whose rule reads the name.
     pub(crate) fn lowest(&self, name: &[A::Symbol]) -> Result<usize, Denial>
         ensures { GovernAnswer (locked self.now) (seen (A.Alphabet.held self.now.kept.alphabet) name.now) result }
     {
         check_name(name.len())?;
-        self.kept
-            .rules
-            .iter()
-            .position(|held| held.reads(&self.kept.alphabet, name))
-            .ok_or(Denial::NotRead)
+        match self.first_reading(name) {
+            Some(place) => Ok(place),
+            None => Err(Denial::NotRead),
+        }
     }
 }
