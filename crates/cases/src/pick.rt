@@ -62,7 +62,7 @@ pub enum Keys {
     StarsOnly,
 }
 
-// The key of a node as a number, 0 for nothing, so that the largest length and the one below it count alike.
+// The key of a node as a number, 0 for nothing. It saturates, so the largest length and the one below it count alike.
 fn key(keys: Keys, row: &Row, entry: &Entry) -> usize
     ensures { result ≡ key_of keys row.now entry.now }
 {
@@ -98,7 +98,8 @@ fn outranks(keys: Keys, opposite: bool, rows: &[Row], first: &[Entry], second: &
     }
 }
 
-// The place of the reading that no other is above or, for the opposite, below, among those listed; the first of equals.
+// The place of a listed reading that no other is above or, for the opposite, below. Where all have as many entries it is the first of
+// equals.
 pub fn best(keys: Keys, opposite: bool, rows: &[Row], all: &[Reading]) -> usize
     ensures none { length all.now ≡ 0 → result ≡ 0 }
     ensures unsurpassed { MatchOption (slice_get all.now result) (length all.now ≡ 0) (λ r. All (λ other. over opposite (node_keys keys rows.now other.items) (node_keys keys rows.now r.items) ≡ false) all.now) }

@@ -49,7 +49,7 @@ pub fn next_line(input: &[u8]) -> Option<(&[u8], &[u8])>
         return None;
     }
     let (line, rest) = input.split_at(line_end(input).unwrap_or(input.len()));
-    // What follows is reckoned from where the line ends, and not from the byte there, which would be waited for at each line.
+    // The rest begins one byte on, unless nothing is left: by its length, so that a line need not wait for the byte that ends the last.
     match rest {
         [_, after @ ..] => Some((line, after)),
         [] => Some((line, rest)),
